@@ -1,0 +1,5 @@
+// Tests of the library's crates on written-out examples.
+#[cfg(test)]
+mod bytes;
+#[cfg(test)]
+mod loads;

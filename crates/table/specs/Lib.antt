@@ -1,0 +1,10 @@
+pub mod Below
+pub mod Bits
+pub mod Rows
+pub mod Layout
+pub mod Faults
+pub mod Questions
+pub mod Reading
+pub mod Lawful
+pub mod Sound
+pub mod View
