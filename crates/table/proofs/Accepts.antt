@@ -50,7 +50,7 @@ described-fits bytes t l = subst RowFits (sym (row-is bytes (tasks-of bytes) t (
 wrong : (f : Fault) (p : Plan) → Err f ≡ Ok p → ⊥
 wrong f p h = let z : _≡_ {A = ℕ} 0 1 = cc in omega arith
 
-unless-ok : (o : Option Fault) (d p : Plan) → unless o d ≡ Ok p → (o ≡ None) × (d ≡ p)
+pub unless-ok : (o : Option Fault) (d p : Plan) → unless o d ≡ Ok p → (o ≡ None) × (d ≡ p)
 unless-ok None d p h = (refl, cc)
 unless-ok (Some f) d p h = absurd (wrong f p h)
 

@@ -21,7 +21,7 @@ use Rattle.table.specs.Sound.{row-fits, rows-fit, plan-fits, is-lawful, is-not
 use Rattle.table.specs.declared.rows.Row.{Row}
 use Rattle.table.specs.declared.layout.Header.{Header}
 use Rattle.table.proofs.Verdict.{neither}
-use Rattle.table.proofs.Accepts.{field-lt, rows-length, described-fits}
+use Rattle.table.proofs.Accepts.{field-lt, rows-length, described-fits, unless-ok}
 
 row-passes : (r : Row) → RowFits r → row-fits r ≡ true
 row-passes r f = and-from _ _ (lt-ltb _ _ (f .core)) (and-from _ _ (lt-ltb _ _ (f .start)) (and-from _ _ (lt-ltb _ _ (f .end)) (and-from _ _ (lt-ltb _ _ (f .claim)) (lt-ltb _ _ (f .inputs)))))
@@ -46,9 +46,10 @@ filled-plan bytes h rows e is =
     ∙ (ap (λ k. record { cores = cores-of bytes; ticks = k; rows = take (h .tasks) rows }) (e .ticks)
     ∙ ap (λ xs. record { cores = cores-of bytes; ticks = ticks-of bytes; rows = xs }) (is ∙ ap (rows-of bytes) (e .tasks)))
 
-pub filled-sound : (bytes : List ℕ) (h : Header) (rows : List Row) → Heads bytes h → or-else (header-fault bytes) (rows-fault (described bytes)) ≡ None → take (h .tasks) rows ≡ rows-of bytes (h .tasks) → length rows ≡ 384 → sound (h .cores) (h .tasks) (h .ticks) rows ≡ true
+pub filled-sound : (bytes : List ℕ) (h : Header) (rows : List Row) → Heads bytes h → loaded bytes ≡ Ok (described bytes) → take (h .tasks) rows ≡ rows-of bytes (h .tasks) → length rows ≡ 384 → sound (h .cores) (h .tasks) (h .ticks) rows ≡ true
 unfolding sound
-filled-sound bytes h rows e none is room =
+filled-sound bytes h rows e whole is room =
+    let none = unless-ok (or-else (header-fault bytes) (rows-fault (described bytes))) (described bytes) (described bytes) whole .0 in
     and-from _ _ (le-leb (h .tasks) (length rows) (omega (arith, room, e .few-tasks)))
     (or-right (is-nothing (h .cores) (h .tasks) (h .ticks)) (is-lawful (plan-from (h .cores) (h .tasks) (h .ticks) rows))
     (ap is-lawful (filled-plan bytes h rows e is) ∙ and-from (plan-fits (described bytes)) _ (plan-passes bytes h e) (ap (λ o. not (isSome o)) (neither (header-fault bytes) (rows-fault (described bytes)) none .1))))

@@ -10,7 +10,7 @@ use Rattle.std.specs.declared.result.Result.{Result}
 use Rattle.std.specs.declared.result.Result.the-variants.{Ok, Err}
 use Rattle.table.specs.Rows.{has, on, kept-end}
 use Rattle.table.specs.Layout.{cores-of, tasks-of, ticks-of, described}
-use Rattle.table.specs.Questions.{header-fault, or-else, rows-fault}
+use Rattle.table.specs.Questions.{header-fault, loaded, answered}
 use Rattle.table.specs.declared.rows.Row.{Row}
 use Rattle.table.specs.declared.faults.Fault.{Fault}
 use Rattle.table.specs.declared.layout.Header.{Header}
@@ -35,8 +35,8 @@ HeadRead bytes (Err f) = header-fault bytes ≡ Some f
 
 -- all questions were asked: the header, or the fault
 abbrev pub Checked : List ℕ → Result Header Fault → Type 0
-Checked bytes (Ok h) = (or-else (header-fault bytes) (rows-fault (described bytes)) ≡ None) × Heads bytes h
-Checked bytes (Err f) = or-else (header-fault bytes) (rows-fault (described bytes)) ≡ Some f
+Checked bytes (Ok h) = (loaded bytes ≡ Ok (described bytes)) × (Ok (h .tasks) ≡ answered (loaded bytes)) × Heads bytes h
+Checked bytes (Err f) = loaded bytes ≡ Err f
 
 -- the smallest end of these rows on core k, unreached if there is none
 abbrev pub earliest-end : ℕ → List Row → ℕ
