@@ -1,5 +1,7 @@
 ghost use mathlib.Core.Path.{_≡_};
-ghost use Rattle.table.specs.Faults.{number-of, row-of, offset-of};
+ghost use Rattle.std.specs.declared.option.Option.the-variants.{Some};
+ghost use Rattle.table.specs.Faults.{number-of, row-of, offset-of, reason-of, line-of};
+use std::fmt;
 
 // Why bytes are no table. A fault of a row carries the row's number.
 #[derive(Clone, Copy, PartialEq, Eq, Debug)]
@@ -60,6 +62,36 @@ impl Fault {
             Fault::NoSuchCore(row) => 48 + 88 * u32::from(row),
             Fault::BadSpan(row) | Fault::OutOfOrder(row) => 51 + 88 * u32::from(row),
             Fault::BadInputs(row) => 128 + 88 * u32::from(row),
+        }
+    }
+
+    // What is wrong, in words.
+    pub fn reason(self) -> &'static str
+        ensures { λ r. ⌜ now r ≡ reason-of self ⌝ }
+    {
+        match self {
+            Fault::NotATable => "there are not 6 bytes that begin with the mark 87",
+            Fault::TaskCount => "the number of tasks is not from 1 to 384",
+            Fault::WrongLength => "the length is not 6 + 11 bytes for each task",
+            Fault::NoSuchCore(_) => "the core is not one of the table's",
+            Fault::BadSpan(_) => "the start is not before the end, or the end is past the frame",
+            Fault::OutOfOrder(_) => "the start is before the end of the row before it on its core",
+            Fault::BadInputs(_) =>
+                "a data bit names no other core on which a row ends by the start",
+        }
+    }
+}
+
+pub impl fmt::Display for Fault as FaultDisplay {
+    ghost shown = { λ fault. Some (line-of fault) };
+
+    fn fmt<W: fmt::Write>(&self, f: &mut fmt::Formatter<W>) -> fmt::Result {
+        let number = self.number();
+        let offset = self.offset();
+        let reason = self.reason();
+        match self.row() {
+            Some(row) => write!(f, "question {number}, row {row}, bit {offset}: {reason}"),
+            None => write!(f, "question {number}, no row, bit {offset}: {reason}"),
         }
     }
 }

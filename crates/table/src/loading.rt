@@ -4,7 +4,7 @@ ghost use Rattle.std.specs.Results.{isErr};
 ghost use Rattle.table.specs.Rows.{nothing};
 ghost use Rattle.table.specs.Questions.{loaded, answered, left-by};
 ghost use Rattle.table.specs.Lawful.{AcceptsExactlyTheLawful, AcceptsEveryLawfulTable};
-ghost use Rattle.table.specs.View.{plan-of};
+ghost use Rattle.table.specs.View.{plan-of, Read};
 use crate::faults::Fault;
 use crate::lawful::Table;
 use crate::layout::read_rows;
@@ -17,6 +17,22 @@ pub fn check(bytes: &[u8]) -> Result<u16, Fault>
 {
     let header = checked(bytes)?;
     Ok(header.tasks)
+}
+
+// The table that the bytes hold.
+fn read_table(bytes: &[u8]) -> Result<Table, Fault>
+    ensures read { λ r. ⌜ Read (now (bytes .entry)) r ⌝ }
+    ensures exactly { λ _. ⌜ AcceptsExactlyTheLawful (now (bytes .entry)) ⌝ }
+    ensures every { λ _. ⌜ AcceptsEveryLawfulTable ⌝ }
+{
+    let header = checked(bytes)?;
+    let rows = read_rows(bytes, header.tasks);
+    Ok(Table {
+        cores: header.cores,
+        tasks: header.tasks,
+        ticks: header.ticks,
+        rows,
+    })
 }
 
 impl Table {
@@ -40,15 +56,8 @@ impl Table {
         ensures exactly { λ _. ⌜ AcceptsExactlyTheLawful (now (bytes .entry)) ⌝ }
         ensures every { λ _. ⌜ AcceptsEveryLawfulTable ⌝ }
     {
-        let header = checked(bytes)?;
-        let tasks = header.tasks;
-        let rows = read_rows(bytes, tasks);
-        *self = Table {
-            cores: header.cores,
-            tasks,
-            ticks: header.ticks,
-            rows,
-        };
-        Ok(tasks)
+        let table = read_table(bytes)?;
+        *self = table;
+        Ok(table.tasks)
     }
 }

@@ -2,11 +2,25 @@ ghost use mathlib.Core.Path.{_≡_};
 ghost use Prim.Native.Nat.{_<_, _≤_};
 ghost use lib.ListN.{length, drop};
 ghost use Rattle.std.specs.shelf.Lists.{countBy};
-ghost use Rattle.table.specs.Rows.{named, ends-by, nth-on, row, tasks-on, wait};
+ghost use Rattle.table.specs.Rows.{named, on, ends-by, nth-on, row, tasks-on, wait};
 ghost use Rattle.table.specs.Lawful.{EmptyOrLawful};
 ghost use Rattle.table.specs.View.{plan-of};
 use crate::lawful::Table;
 use crate::rows::Row;
+
+// Does the row lie on the core?
+fn lies_on(row: Row, core: u32) -> bool
+    ensures { λ r. ⌜ r ≡ on core row ⌝ }
+{
+    u32::from(row.core) == core
+}
+
+// Does the row lie on the core and end by the time?
+fn ends_by(row: Row, core: u32, time: u32) -> bool
+    ensures { λ r. ⌜ r ≡ ends-by core time row ⌝ }
+{
+    lies_on(row, core) && row.end <= time
+}
 
 // How many of the rows lie on the core and end by the time.
 fn count_ended_by(rows: &[Row], core: u32, time: u32) -> u16
@@ -15,7 +29,7 @@ fn count_ended_by(rows: &[Row], core: u32, time: u32) -> u16
 {
     let mut count = 0;
     for row in rows {
-        if u32::from(row.core) == core && row.end <= time {
+        if ends_by(*row, core, time) {
             count += 1;
         }
     }
@@ -68,7 +82,7 @@ impl Table {
     {
         let mut count = 0;
         for t in 0..self.tasks {
-            if u32::from(self.rows[usize::from(t)].core) == core {
+            if lies_on(self.rows[usize::from(t)], core) {
                 count += 1;
             }
         }
@@ -80,7 +94,7 @@ impl Table {
         ensures { λ r. ⌜ r ≡ named (nth-on core 0 from (drop from (plan-of (now (self .entry)) .rows))) ⌝ }
     {
         for t in from..self.tasks {
-            if u32::from(self.rows[usize::from(t)].core) == core {
+            if lies_on(self.rows[usize::from(t)], core) {
                 return Some(t);
             }
         }

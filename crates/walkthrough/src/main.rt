@@ -4,6 +4,7 @@ use board::count::CountBoard;
 use board::count::CountBoardBoard;
 use std::error::AnyError;
 use std::fs;
+use table::faults::FaultDisplay;
 use table::lawful::Table;
 
 mod tour;
@@ -20,21 +21,7 @@ fn read_table(rt: &LibcRuntime) -> Result<Table, AnyError> {
     let mut table = Table::new();
     match table.load(bytes.as_slice()) {
         Ok(_) => Ok(table),
-        Err(fault) => {
-            let number = fault.number();
-            let offset = fault.offset();
-            let text = match fault.row() {
-                Some(row) => format!(
-                    rt.alloc(),
-                    "no table: question {number} refuses row {row} at bit {offset}"
-                )?,
-                None => format!(
-                    rt.alloc(),
-                    "no table: question {number} refuses the header at bit {offset}"
-                )?,
-            };
-            Err(text.into())
-        }
+        Err(fault) => Err(format!(rt.alloc(), "no table: {fault}")?.into()),
     }
 }
 
@@ -96,5 +83,9 @@ fn walk(rt: &LibcRuntime) -> Result<(), AnyError> {
 }
 
 fn main(rt: LibcRuntime) -> Result<(), AnyError> {
-    rt.report(walk(&rt))
+    let walked = walk(&rt);
+    if let Err(error) = &walked {
+        eprintln!(rt, "{error}")?;
+    }
+    walked
 }
