@@ -10,27 +10,26 @@ use Rattle.std.specs.declared.option.Option.the-variants.{Some, None}
 use Rattle.std.proofs.shelf.Tests.{cases-bool, lt-ltb, and-parts, and-left, and-right, false≢true}
 use Rattle.table.proofs.Tables.{named-some, task-at}
 use Rattle.board.specs.Steps.{is-waiting, is-pending, is-over}
-use Rattle.table.specs.Below.{all-below, any-below}
-use Rattle.board.specs.Meaning.{idle, ended-on, step-of, next, next-task, free-of, droppable, clear, easable}
+use Rattle.board.specs.Meaning.{idle, ended-on, step-of, next, next-task, clear, easable}
 use Rattle.board.specs.Standing.{plan-at, progress-at}
 use Rattle.board.specs.declared.cores.Core.{Core}
 use Rattle.board.specs.declared.cores.Step.{Step}
 use Rattle.board.specs.declared.cores.Step.the-variants.{Waiting, Loose, Running, Over}
 use Rattle.board.specs.declared.progress.Progress.{Progress}
-use Rattle.board.proofs.Keeping.{left-at, pending-left, waiting-left}
+use Rattle.board.proofs.Keeping.{left-at}
 
 and-last : (x y z : Bool) → x ≡ true → y ≡ true → (x && (y && z)) ≡ z
 and-last true true z a b = refl
 and-last true false z a b = absurd (false≢true b)
 and-last false y z a b = absurd (false≢true a)
 
-over-pending : (s : Step) → is-over s ≡ true → is-pending s ≡ false
+pub over-pending : (s : Step) → is-over s ≡ true → is-pending s ≡ false
 over-pending Waiting h = absurd (false≢true h)
 over-pending Loose h = absurd (false≢true h)
 over-pending Running h = absurd (false≢true h)
 over-pending Over h = refl
 
-over-waiting : (s : Step) → is-over s ≡ true → is-waiting s ≡ false
+pub over-waiting : (s : Step) → is-over s ≡ true → is-waiting s ≡ false
 over-waiting Waiting h = absurd (false≢true h)
 over-waiting Loose h = refl
 over-waiting Running h = refl
@@ -43,28 +42,24 @@ none-over x k h = ⊎-elim (λ e. e)
     let z : _≡_ {A = ℕ} 0 1 = cc in absurd (omega arith))
     (cases-bool (is-over (step-of (progress-at x) k)))
 
--- clear: by the test of all cores at a pending next task, and not without one
-pub clear-from : (x : Progress) (k : ℕ) (c : Core) (t : ℕ) (b : Bool) → c ≡ getD (progress-at x) k idle → Some t ≡ next-task (plan-at x) (progress-at x) k → is-pending (c .step) ≡ true →
-    b ≡ all-below (plan-at x .cores) (free-of (plan-at x) (progress-at x) (c .step) t) → b ≡ clear (plan-at x) (progress-at x) k
-clear-from x k c t b e d w h =
-    let v : is-pending (step-of (progress-at x) k) ≡ true = ap (λ (c : Core). is-pending (c .step)) (sym e) ∙ w in
-    h ∙ (ap (λ u. all-below (plan-at x .cores) (free-of (plan-at x) (progress-at x) (c .step) u)) (sym (named-some _ t (sym d)))
-    ∙ (ap (λ (c : Core). all-below (plan-at x .cores) (free-of (plan-at x) (progress-at x) (c .step) (next (plan-at x) (progress-at x) k))) e
-    ∙ sym (and-last (ltb k (plan-at x .cores)) (is-pending (step-of (progress-at x) k)) _ (lt-ltb _ _ (left-at x k (pending-left _ v) .there)) v)))
+-- a question about a core: its next task is at a step of the kind g, and passes the test f there
+module _ (x : Progress) (k : ℕ) (g : Step → Bool) (f : Step → ℕ → Bool) where
+  pub asked-from : ((s : Step) → g s ≡ true → is-over s ≡ false) → (c : Core) (t : ℕ) (b : Bool) → c ≡ getD (progress-at x) k idle → Some t ≡ next-task (plan-at x) (progress-at x) k → g (c .step) ≡ true →
+      b ≡ f (c .step) t → b ≡ (ltb k (plan-at x .cores) && (g (step-of (progress-at x) k) && f (step-of (progress-at x) k) (next (plan-at x) (progress-at x) k)))
+  asked-from left c t b e d w h =
+      let v : g (step-of (progress-at x) k) ≡ true = ap (λ (c : Core). g (c .step)) (sym e) ∙ w in
+      h ∙ (ap (f (c .step)) (sym (named-some _ t (sym d)))
+      ∙ (ap (λ (c : Core). f (c .step) (next (plan-at x) (progress-at x) k)) e
+      ∙ sym (and-last (ltb k (plan-at x .cores)) (g (step-of (progress-at x) k)) _ (lt-ltb _ _ (left-at x k (left _ v) .there)) v)))
 
-pub clear-none : (x : Progress) (k : ℕ) → None ≡ next-task (plan-at x) (progress-at x) k → false ≡ clear (plan-at x) (progress-at x) k
-clear-none x k h = sym (and-right _ _ (and-left _ _ (over-pending (step-of (progress-at x) k) (none-over x k h))))
+  -- at a step of another kind the answer is no
+  pub asked-not : (c : Core) (b : Bool) → c ≡ getD (progress-at x) k idle → b ≡ g (c .step) → b ≡ false → b ≡ (ltb k (plan-at x .cores) && (g (step-of (progress-at x) k) && f (step-of (progress-at x) k) (next (plan-at x) (progress-at x) k)))
+  asked-not c b e w h = h ∙ sym (and-right _ _ (and-left _ _ (ap (λ (c : Core). g (c .step)) (sym e) ∙ (sym w ∙ h))))
 
--- easable: by the test of some core at a waiting next task, and not without one
-pub easable-from : (x : Progress) (k : ℕ) (c : Core) (t : ℕ) (b : Bool) → c ≡ getD (progress-at x) k idle → Some t ≡ next-task (plan-at x) (progress-at x) k → is-waiting (c .step) ≡ true →
-    b ≡ any-below (plan-at x .cores) (droppable (plan-at x) (progress-at x) k t) → b ≡ easable (plan-at x) (progress-at x) k
-easable-from x k c t b e d w h =
-    let v : is-waiting (step-of (progress-at x) k) ≡ true = ap (λ (c : Core). is-waiting (c .step)) (sym e) ∙ w in
-    h ∙ (ap (λ u. any-below (plan-at x .cores) (droppable (plan-at x) (progress-at x) k u)) (sym (named-some _ t (sym d)))
-    ∙ sym (and-last (ltb k (plan-at x .cores)) (is-waiting (step-of (progress-at x) k)) _ (lt-ltb _ _ (left-at x k (waiting-left _ v) .there)) v))
-
-pub easable-none : (x : Progress) (k : ℕ) → None ≡ next-task (plan-at x) (progress-at x) k → false ≡ easable (plan-at x) (progress-at x) k
-easable-none x k h = sym (and-right _ _ (and-left _ _ (over-waiting (step-of (progress-at x) k) (none-over x k h))))
+  -- without a next task the answer is no
+  pub asked-none : ((s : Step) → is-over s ≡ true → g s ≡ false) → None ≡ next-task (plan-at x) (progress-at x) k →
+      false ≡ (ltb k (plan-at x .cores) && (g (step-of (progress-at x) k) && f (step-of (progress-at x) k) (next (plan-at x) (progress-at x) k)))
+  asked-none over h = sym (and-right _ _ (and-left _ _ (over (step-of (progress-at x) k) (none-over x k h))))
 
 -- a clear core has a pending next task, an easable one a waiting one
 pub clear-pending : (x : Progress) (k : ℕ) → clear (plan-at x) (progress-at x) k ≡ true → is-pending (step-of (progress-at x) k) ≡ true

@@ -7,7 +7,8 @@ use lib.ListN.{getD, set}
 use Rattle.std.specs.Iters.{counting}
 use Rattle.std.specs.declared.option.Option.{Option}
 use Rattle.table.specs.Below.{all-below, any-below}
-use Rattle.table.specs.Rows.{Plan, row, has, on, named, nth-on, tasks-on, wait}
+use Rattle.table.specs.Sets.{has}
+use Rattle.table.specs.Rows.{Plan, row, on, named, nth-on, tasks-on, wait}
 use Rattle.board.specs.Steps.{is-waiting, is-pending, is-running}
 use Rattle.board.specs.declared.cores.Core.{Core}
 use Rattle.board.specs.declared.cores.Step.{Step}

@@ -3,3 +3,5 @@
 mod bytes;
 #[cfg(test)]
 mod loads;
+#[cfg(test)]
+mod vector_board;

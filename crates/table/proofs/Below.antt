@@ -1,11 +1,13 @@
 -- Tests over all numbers below a bound.
-use Prim.Native.Nat.{ℕ, zero, suc, _+_, _<_}
-use mathlib.Core.Bool.{Bool, true, false, _&&_, _||_}
+use Prim.Native.Nat.{ℕ, zero, suc, _+_, _-_, _<_, _≤_}
+use mathlib.Core.Bool.{Bool, true, false, _&&_, _||_, cond}
+use Rattle.std.specs.declared.option.Option.{Option}
+use Rattle.std.specs.declared.option.Option.the-variants.{Some, None}
 use mathlib.Core.Path.{_≡_, refl, ap, subst, _∙_}
 use mathlib.Core.Logic.{⊎-elim}
 use native.Mathlib.Omega.{arith}
 use Rattle.std.proofs.shelf.Tests.{cases-bool, cases-lt, and-parts, and-from, or-left, or-right, or-from, both-ways}
-use Rattle.table.specs.Below.{all-below, any-below}
+use Rattle.table.specs.Below.{all-below, any-below, first-from}
 
 -- a test that holds of all numbers holds of each, and the other way round
 pub all-at : (n : ℕ) (f : ℕ → Bool) → all-below n f ≡ true → (j : ℕ) → j < n → f j ≡ true
@@ -40,3 +42,48 @@ any-yes (suc n) f j l h = ⊎-elim
 
 pub any-more : (n : ℕ) (f : ℕ → Bool) → f n ≡ false → any-below n f ≡ false → any-below (n + 1) f ≡ false
 any-more n f a b = let e : suc n ≡ n + 1 = omega arith in subst (λ i. any-below i f ≡ false) e (or-from (f n) (any-below n f) a b)
+
+-- a test that holds of no number holds of none of them, and the other way round
+pub any-at : (n : ℕ) (f : ℕ → Bool) → any-below n f ≡ false → (j : ℕ) → j < n → f j ≡ false
+any-at n f h j l = ⊎-elim (λ y. absurd (both-ways (any-below n f) h (any-yes n f j l y))) (λ e. e) (cases-bool (f j))
+
+pub any-none : (n : ℕ) (f : ℕ → Bool) → ((j : ℕ) → j < n → f j ≡ false) → any-below n f ≡ false
+any-none zero f h = refl
+any-none (suc n) f h = or-from (f n) (any-below n f) (h n (omega arith)) (any-none n f (λ j l. h j (omega arith)))
+
+-- tests that agree on each number agree on some
+pub any-same : (n : ℕ) (f g : ℕ → Bool) → ((j : ℕ) → j < n → f j ≡ g j) → any-below n f ≡ any-below n g
+any-same zero f g h = refl
+any-same (suc n) f g h = ap (λ b. b || any-below n f) (h n (omega arith)) ∙ ap (λ b. g n || b) (any-same n f g (λ j l. h j (omega arith)))
+
+-- numbers from m on at which the test holds may be left out of all, and those at which it fails out of any
+pub all-fewer : (m n : ℕ) (f : ℕ → Bool) → m ≤ n → ((j : ℕ) → m ≤ j → j < n → f j ≡ true) → all-below n f ≡ all-below m f
+all-fewer m zero f l h = let e : zero ≡ m = omega arith in ap (λ i. all-below i f) e
+all-fewer m (suc n) f l h = ⊎-elim
+    (λ q. ap (λ b. b && all-below n f) (h n (omega arith) (omega arith)) ∙ all-fewer m n f (omega arith) (λ j a b. h j a (omega arith)))
+    (λ q. let e : suc n ≡ m = omega arith in ap (λ i. all-below i f) e)
+    (cases-lt m (suc n))
+
+pub any-fewer : (m n : ℕ) (f : ℕ → Bool) → m ≤ n → ((j : ℕ) → m ≤ j → j < n → f j ≡ false) → any-below n f ≡ any-below m f
+any-fewer m zero f l h = let e : zero ≡ m = omega arith in ap (λ i. any-below i f) e
+any-fewer m (suc n) f l h = ⊎-elim
+    (λ q. ap (λ b. b || any-below n f) (h n (omega arith) (omega arith)) ∙ any-fewer m n f (omega arith) (λ j a b. h j a (omega arith)))
+    (λ q. let e : suc n ≡ m = omega arith in ap (λ i. any-below i f) e)
+    (cases-lt m (suc n))
+
+-- the search for the first number at which the test holds, one number on
+module _ (f : ℕ → Bool) (i n : ℕ) (o : Option ℕ) (sofar : first-from f i (n - i) ≡ o) where
+  first-step : i < n → cond (f i) (Some i) (first-from f (i + 1) (n - (i + 1))) ≡ o
+  first-step l =
+      let m : suc (n - (i + 1)) ≡ n - i = omega arith in
+      let s : i + 1 ≡ suc i = omega arith in
+      ap (λ j. cond (f i) (Some i) (first-from f j (n - (i + 1)))) s ∙ (ap (first-from f i) m ∙ sofar)
+
+  pub first-found : i < n → true ≡ f i → Some i ≡ o
+  first-found l h = ap (λ b. cond b (Some i) (first-from f (i + 1) (n - (i + 1)))) h ∙ first-step l
+
+  pub first-more : i < n → false ≡ f i → first-from f (i + 1) (n - (i + 1)) ≡ o
+  first-more l h = ap (λ b. cond b (Some i) (first-from f (i + 1) (n - (i + 1)))) h ∙ first-step l
+
+  pub first-done : n ≤ i → None ≡ o
+  first-done l = let z : 0 ≡ n - i = omega arith in ap (first-from f i) z ∙ sofar

@@ -1,4 +1,6 @@
 pub mod Below
+pub mod Sets
+pub mod Masks
 pub mod Places
 pub mod Verdict
 pub mod Encode

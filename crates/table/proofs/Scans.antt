@@ -13,7 +13,8 @@ use Rattle.std.proofs.shelf.Counted.{map-counting-more, take-map-counting}
 use Rattle.std.proofs.shelf.Lists.{getD-set-same, getD-set-other}
 use Rattle.std.proofs.shelf.Tests.{cases-bool, cases-eq, cases-lt, eq-eqb, ne-eqb, le-leb, lt-leb, or-left, or-right, or-from, cond-true, cond-false}
 use Rattle.table.specs.Below.{all-below}
-use Rattle.table.specs.Rows.{Plan, row, has, on, ends-by, kept-end, last-end}
+use Rattle.table.specs.Sets.{has}
+use Rattle.table.specs.Rows.{Plan, row, on, ends-by, kept-end, last-end}
 use Rattle.table.specs.Layout.{cores-of, tasks-of, ticks-of, rows-of, row-at, described}
 use Rattle.table.specs.Questions.{span-fault, place-fault, some-ends-by, input-ok, input-fault, or-else, first-fault, header-fault, rows-fault}
 use Rattle.table.specs.Reading.{Heads, unreached, earliest-end, passes-by}

@@ -94,12 +94,15 @@ of-plan t P n f = ⊎-elim (λ e. subst P (sym e) n) (λ h. f (h .0)) (parts t .
 of-row : (rows : List Row) (P : Row → Type 0) → P blank → ((t : ℕ) → t < length rows → P (getD rows t blank)) → (t : ℕ) → P (getD rows t blank)
 of-row rows P b f t = ⊎-elim (f t) (λ l. subst P (sym (getD-past rows t blank l)) b) (cases-lt t (length rows))
 
--- the claims and the starts of all rows fit
+-- the claims, the starts and the cores of all rows fit
 pub small : (t : Table) (n : ℕ) → row (plan-of t) n .claim < 2097152
 small t n = of-plan t (λ (p : Plan). row p n .claim < 2097152) (omega arith) (λ f. of-row (plan-of t .rows) (λ (r : Row). r .claim < 2097152) (omega arith) (λ u l. f .each u l .claim) n)
 
 pub soon : (t : Table) (n : ℕ) → row (plan-of t) n .start < 268435456
 soon t n = of-plan t (λ (p : Plan). row p n .start < 268435456) (omega arith) (λ f. of-row (plan-of t .rows) (λ (r : Row). r .start < 268435456) (omega arith) (λ u l. f .each u l .start) n)
+
+pub core-below : (t : Table) (n : ℕ) → row (plan-of t) n .core < 8
+core-below t n = of-plan t (λ (p : Plan). row p n .core < 8) (omega arith) (λ f. of-row (plan-of t .rows) (λ (r : Row). r .core < 8) (omega arith) (λ u l. f .each u l .core) n)
 
 pub few-cores : (t : Table) → t .cores ≤ 8
 few-cores t = of-plan t (λ (p : Plan). p .cores ≤ 8) (omega arith) (λ f. f .few-cores)
@@ -126,6 +129,9 @@ few-on t k = omega (arith, few-rows t, countBy-le-length (on k) (plan-of t .rows
 place-hit : (k i : ℕ) (r : Row) (rs : List Row) → r .core ≡ k → nth-on k 0 i (r ∷ rs) ≡ i
 place-hit k i r rs e = cond-true (eqb (r .core) k) _ _ (eq-eqb _ _ e)
 
+place-pass : (k n i : ℕ) (r : Row) (rs : List Row) → r .core ≡ k → nth-on k (suc n) i (r ∷ rs) ≡ nth-on k n (suc i) rs
+place-pass k n i r rs e = cond-true (eqb (r .core) k) _ _ (eq-eqb _ _ e)
+
 place-miss : (k n i : ℕ) (r : Row) (rs : List Row) → (r .core ≡ k → ⊥) → nth-on k n i (r ∷ rs) ≡ nth-on k n (suc i) rs
 place-miss k zero i r rs e = cond-false (eqb (r .core) k) _ _ (ne-eqb _ _ e)
 place-miss k (suc n) i r rs e = cond-false (eqb (r .core) k) _ _ (ne-eqb _ _ e)
@@ -139,6 +145,9 @@ module _ (k i tasks : ℕ) (all : List Row) (l : i < tasks) (m : tasks ≤ lengt
 
   pub found : getD all i blank .core ≡ k → nth-on k 0 i (drop i (take tasks all)) ≡ i
   found e = ap (nth-on k 0 i) (drop-more (take tasks all) i blank within) ∙ place-hit k i (getD (take tasks all) i blank) _ (ap (λ r. r .core) same ∙ e)
+
+  pub passes : (n : ℕ) → getD all i blank .core ≡ k → nth-on k (suc n) i (drop i (take tasks all)) ≡ nth-on k n (i + 1) (drop (i + 1) (take tasks all))
+  passes n e = ap (nth-on k (suc n) i) (drop-more (take tasks all) i blank within) ∙ (place-pass k n i (getD (take tasks all) i blank) _ (ap (λ r. r .core) same ∙ e) ∙ ap (λ x. nth-on k n x (drop (i + 1) (take tasks all))) (omega arith))
 
   pub misses : (n : ℕ) → (getD all i blank .core ≡ k → ⊥) → nth-on k n i (drop i (take tasks all)) ≡ nth-on k n (i + 1) (drop (i + 1) (take tasks all))
   misses n e = ap (nth-on k n i) (drop-more (take tasks all) i blank within) ∙ (place-miss k n i (getD (take tasks all) i blank) _ (λ x. e (ap (λ r. r .core) (sym same) ∙ x)) ∙ ap (λ x. nth-on k n x (drop (i + 1) (take tasks all))) (omega arith))

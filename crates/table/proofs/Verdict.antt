@@ -14,7 +14,8 @@ use Rattle.std.proofs.shelf.Tests.{cases-bool, cases-lt, cases-eq, eqb-true, eq
 use Rattle.std.specs.declared.option.Option.{Option}
 use Rattle.std.specs.declared.option.Option.the-variants.{Some, None}
 use Rattle.table.specs.Below.{all-below}
-use Rattle.table.specs.Rows.{Plan, row, blank, has, on, ends-by, kept-end, last-end}
+use Rattle.table.specs.Sets.{has}
+use Rattle.table.specs.Rows.{Plan, row, blank, on, ends-by, kept-end, last-end}
 use Rattle.table.specs.Questions.{place-fault, some-ends-by, input-ok, input-fault, or-else, first-fault, rows-fault}
 use Rattle.table.specs.Lawful.{EndsBy, Writes, Lawful, RowFits}
 use Rattle.table.specs.declared.rows.CoreSet.{CoreSet}

@@ -7,7 +7,8 @@ use mathlib.Core.Logic.{_⊎_}
 use lib.ListN.{length, getD}
 use Rattle.std.specs.shelf.Lists.{All}
 use Rattle.std.specs.declared.result.Result.the-variants.{Ok}
-use Rattle.table.specs.Rows.{Plan, nothing, row, has}
+use Rattle.table.specs.Sets.{has}
+use Rattle.table.specs.Rows.{Plan, nothing, row}
 use Rattle.table.specs.Layout.{cores-of, tasks-of, ticks-of, row-at}
 use Rattle.table.specs.Questions.{loaded}
 use Rattle.table.specs.declared.rows.Row.{Row}

@@ -1,4 +1,5 @@
 pub mod Below
+pub mod Sets
 pub mod Bits
 pub mod Rows
 pub mod Layout

@@ -9,7 +9,8 @@ use Rattle.std.specs.declared.option.Option.the-variants.{Some, None}
 use Rattle.std.specs.declared.result.Result.{Result}
 use Rattle.std.specs.declared.result.Result.the-variants.{Ok, Err}
 use Rattle.table.specs.Below.{all-below}
-use Rattle.table.specs.Rows.{Plan, row, has, on, ends-by, last-end}
+use Rattle.table.specs.Sets.{has}
+use Rattle.table.specs.Rows.{Plan, row, on, ends-by, last-end}
 use Rattle.table.specs.Layout.{tasks-of, described}
 use Rattle.table.specs.declared.rows.Row.{Row}
 use Rattle.table.specs.declared.faults.Fault.{Fault}

@@ -8,7 +8,8 @@ use lib.ListN.{length, getD}
 use Rattle.std.specs.declared.option.Option.the-variants.{Some, None}
 use Rattle.std.specs.declared.result.Result.{Result}
 use Rattle.std.specs.declared.result.Result.the-variants.{Ok, Err}
-use Rattle.table.specs.Rows.{has, on, kept-end}
+use Rattle.table.specs.Sets.{has}
+use Rattle.table.specs.Rows.{on, kept-end}
 use Rattle.table.specs.Layout.{cores-of, tasks-of, ticks-of, described}
 use Rattle.table.specs.Questions.{header-fault, loaded, answered}
 use Rattle.table.specs.declared.rows.Row.{Row}

@@ -1,5 +1,5 @@
 -- What a table says: its rows, the places of rows on their cores, and the waits.
-use Prim.Native.Nat.{ℕ, zero, suc, _/_, _%_, _^_}
+use Prim.Native.Nat.{ℕ, zero, suc}
 use mathlib.Core.List.{List, [], _∷_}
 use mathlib.Core.Bool.{Bool, _&&_, cond}
 use lib.Dec.{leb, eqb}
@@ -7,12 +7,7 @@ use lib.ListN.{getD}
 use Rattle.std.specs.shelf.Lists.{countBy}
 use Rattle.std.specs.declared.option.Option.{Option}
 use Rattle.std.specs.declared.option.Option.the-variants.{Some, None}
-use Rattle.table.specs.declared.rows.CoreSet.{CoreSet}
 use Rattle.table.specs.declared.rows.Row.{Row}
-
--- core k is in the set
-abbrev pub has : CoreSet → ℕ → Bool
-has s k = eqb ((s .bits / 2 ^ k) % 2) 1
 
 -- no row
 abbrev pub blank : Row

@@ -1,6 +1,6 @@
 ghost use mathlib.Core.Path.{_≡_};
 ghost use Prim.Native.Nat.{_<_, _≤_};
-ghost use lib.ListN.{length, drop};
+ghost use lib.ListN.{length, take, drop};
 ghost use Rattle.std.specs.shelf.Lists.{countBy};
 ghost use Rattle.table.specs.Rows.{named, on, ends-by, nth-on, row, tasks-on, wait};
 ghost use Rattle.table.specs.Lawful.{EmptyOrLawful};
@@ -20,6 +20,20 @@ fn ends_by(row: Row, core: u32, time: u32) -> bool
     ensures { λ r. ⌜ r ≡ ends-by core time row ⌝ }
 {
     lies_on(row, core) && row.end <= time
+}
+
+// How many of the rows lie on the core.
+fn count_on(rows: &[Row], core: u32) -> u16
+    requires { ⌜ length (now rows) ≤ 384 ⌝ }
+    ensures is { λ r. ⌜ r ≡ tasks-on (now (rows .entry)) core ⌝ }
+{
+    let mut count = 0;
+    for row in rows {
+        if lies_on(*row, core) {
+            count += 1;
+        }
+    }
+    count
 }
 
 // How many of the rows lie on the core and end by the time.
@@ -80,13 +94,34 @@ impl Table {
         ensures is { λ r. ⌜ r ≡ tasks-on (plan-of (now (self .entry)) .rows) core ⌝ }
         ensures few { λ r. ⌜ r ≤ 384 ⌝ }
     {
-        let mut count = 0;
+        let rows = &self.rows[0..usize::from(self.tasks)];
+        count_on(rows, core)
+    }
+
+    // The place of the task on its core: how many tasks stand before it there.
+    pub fn place(&self, task: u16) -> u16
+        ensures is { λ r. ⌜ r ≡ tasks-on (take task (plan-of (now (self .entry)) .rows)) (row (plan-of (now (self .entry))) task .core) ⌝ }
+        ensures few { λ r. ⌜ r ≤ 384 ⌝ }
+    {
+        let core = u32::from(self.row(task).core);
+        let rows = &self.rows[0..usize::from(task.min(self.tasks))];
+        count_on(rows, core)
+    }
+
+    // The task at a place of the core, if there is one; places count from 0.
+    pub fn nth_on(&self, core: u32, nth: u16) -> Option<u16>
+        ensures { λ r. ⌜ r ≡ named (nth-on core nth 0 (plan-of (now (self .entry)) .rows)) ⌝ }
+    {
+        let mut left = nth;
         for t in 0..self.tasks {
             if lies_on(self.rows[usize::from(t)], core) {
-                count += 1;
+                if left == 0 {
+                    return Some(t);
+                }
+                left -= 1;
             }
         }
-        count
+        None
     }
 
     // The first task of the core from task `from` on, if there is one.

@@ -1,11 +1,11 @@
 // Loads the table in `table.isw`, starts its first task and brings it to its end, and says what was done.
 use board::Board;
-use board::count::CountBoard;
-use board::count::CountBoardBoard;
 use std::error::AnyError;
 use std::fs;
 use table::faults::FaultDisplay;
 use table::lawful::Table;
+use vectors::board::VectorBoard;
+use vectors::notices::VectorBoardBoard;
 
 mod tour;
 
@@ -76,7 +76,7 @@ fn run_one<B: Board>(rt: &LibcRuntime, board: &mut B) -> Result<(), AnyError> {
 fn walk(rt: &LibcRuntime) -> Result<(), AnyError> {
     let table = read_table(rt)?;
     describe(rt, &table)?;
-    let mut board = CountBoard::new();
+    let mut board = VectorBoard::new();
     board.open(&table);
     println!(rt, "The board is open: no task has ended.")?;
     run_one(rt, &mut board)

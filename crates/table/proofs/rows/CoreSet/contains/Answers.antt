@@ -3,7 +3,7 @@ use mathlib.Core.Path.{_≡_, sym, _∙_}
 use mathlib.Core.Logic.{⊎-elim}
 use native.Mathlib.Omega.{arith}
 use Rattle.std.proofs.shelf.Tests.{cases-bool, le-ltb}
-use Rattle.table.specs.Rows.{has}
+use Rattle.table.specs.Sets.{has}
 use Rattle.table.proofs.Verdict.{has-below}
 use Rattle.table.proofs.rows.CoreSet.contains.Needs as need
 

@@ -1,0 +1,12 @@
+pub mod Filling
+pub mod Tells
+pub mod Places
+pub mod Pair
+pub mod Entries
+pub mod Agree
+pub mod Started
+pub mod Finished
+pub mod Opened
+pub mod Eased
+pub mod Stands
+pub mod Orders
