@@ -4,4 +4,6 @@ mod bytes;
 #[cfg(test)]
 mod loads;
 #[cfg(test)]
+mod rules;
+#[cfg(test)]
 mod vector_board;
