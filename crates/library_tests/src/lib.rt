@@ -2,7 +2,11 @@
 #[cfg(test)]
 mod bytes;
 #[cfg(test)]
+mod lines;
+#[cfg(test)]
 mod loads;
+#[cfg(test)]
+mod replies;
 #[cfg(test)]
 mod rules;
 #[cfg(test)]
