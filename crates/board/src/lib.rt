@@ -1,3 +1,5 @@
+#![tactic(auto)]
+
 ghost use Rattle.std.specs.Prelude.{◌≡◌, ℕ, ◌<◌, Bool, true, false, List, slice_index_or};
 ghost use Rattle.table.specs.Lawful.{EmptyOrLawful};
 ghost use Rattle.table.specs.Rows.{Plan, tasks_on};

@@ -1,4 +1,6 @@
 // What a line of a session does to a frame and what is shown for it, and how lines are put together from bytes.
+#![tactic(auto)]
+
 ghost use Rattle.std.specs.Prelude.{◌≡◌, false, Some};
 ghost use Rattle.frame.specs.View.{state_of};
 ghost use Rattle.script.specs.Grammar.{read};

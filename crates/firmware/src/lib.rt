@@ -1,3 +1,5 @@
+#![tactic(auto)]
+
 ghost use Rattle.std.specs.Prelude.{◌≡◌};
 ghost use Rattle.table.specs.Questions.{loaded};
 ghost use Rattle.firmware.specs.Told.{told};

@@ -1,4 +1,6 @@
 // The frame: it steers one frame of a table's tasks over any board and any rule.
+#![tactic(auto)]
+
 ghost use Rattle.std.specs.Prelude.{◌≡◌, ◌<◌, ◌≤◌, cond, not, length, replicate, if◌then◌else◌, Some, None, nat_lt};
 ghost use Rattle.table.specs.View.{plan_of};
 ghost use Rattle.board.specs.Steps.{is_over};

@@ -1,4 +1,6 @@
 // Tests of the library's crates on written-out examples.
+#![tactic(auto)]
+
 #[cfg(test)]
 mod bytes;
 #[cfg(test)]

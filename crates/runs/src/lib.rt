@@ -1,5 +1,7 @@
 // What a frame notes of its tasks and its calls. What each call answers and leaves, what a log of calls tells, the
 // plant and the promises are defined in specs/; that every run keeps the promises is proved in proofs/.
+#![tactic(auto)]
+
 ghost use Rattle.std.specs.Prelude.{◌≡◌};
 ghost use Rattle.calls.specs.declared.Reply.TheVariants.{Noted};
 ghost use Rattle.runs.specs.Records.{manner_number, went_loose};

@@ -1,4 +1,6 @@
 // Plays the lines of standard input on the table in `table.isw`, and writes what each comes to.
+#![tactic(auto)]
+
 use board::Board;
 use console::buffer::LineBuffer;
 use console::feeding::take_byte;

@@ -1,14 +1,12 @@
 -- Load accepts the bytes of a lawful table, and no others.
-use Rattle.std.proofs.Common.{◌≡◌, ℕ, zero, suc, ◌+◌, ◌*◌, ◌^◌, ◌<◌, ◌≤◌, Bool, true, false, cond, not, ◌&&◌, eqb, leb, List, map, length, get_or, Some, None, Ok, Err, Option, Result, sym, refl, ap, ◌∙◌, subst, arith}
-use Rattle.std.specs.List.{range_with_len}
+use Rattle.std.proofs.Common.{◌≡◌, ℕ, zero, suc, ◌+◌, ◌*◌, ◌^◌, ◌<◌, ◌≤◌, not, ◌&&◌, eqb, leb, List, length, get_or, Some, None, Ok, Err, Option, sym, refl, ap, ◌∙◌, subst, arith}
 use Rattle.std.proofs.lemmas.List.FromFn.{length-map-range_with_len, get_or-map-range_with_len, fill_by_all}
 use Rattle.std.proofs.lemmas.Bool.{eqb-true, eq-eqb, leb-true, le-leb, not-false, not_from_true, and_parts, and_from, cond-false}
-use Rattle.table.specs.Bits.{bit_at, field}
+use Rattle.table.specs.Bits.{field}
 use Rattle.table.specs.Rows.{Plan, row, blank}
 use Rattle.table.specs.Layout.{cores_of, tasks_of, ticks_of, rows_of, row_at, core_bit, start_bit, end_bit, claim_bit, inputs_bit, described}
 use Rattle.table.specs.Questions.{header_fault, rows_fault, or_else, unless, loaded}
 use Rattle.table.specs.Lawful.{Lawful, RowFits, Describes, AcceptsExactlyTheLawful, AcceptsEveryLawfulTable}
-use Rattle.table.specs.declared.rows.Row.{Row}
 use Rattle.table.specs.declared.faults.Fault.{Fault}
 use Rattle.table.proofs.Verdict.{passed, neither, none_else, lawful_from, no_fault_from}
 use Rattle.table.proofs.Encode.{encodes}

@@ -1,8 +1,8 @@
 -- The fields of a table that load accepts pass the test of a table value.
-use Rattle.std.proofs.Common.{◌≡◌, ℕ, zero, suc, ◌+◌, ◌*◌, ◌^◌, ◌<◌, ◌≤◌, Bool, true, false, not, ◌&&◌, ◌||◌, ltb, leb, List, [], ◌∷◌, length, get_or, take, is_some, Some, None, Ok, Err, Option, sym, refl, ap, ◌∙◌, subst, arith}
+use Rattle.std.proofs.Common.{◌≡◌, ℕ, suc, ◌^◌, ◌<◌, true, not, List, [], ◌∷◌, length, get_or, take, is_some, Some, None, Ok, Err, sym, refl, ap, ◌∙◌, arith}
 use Rattle.table.specs.declared.faults.Fault.{Fault}
 use Rattle.std.proofs.lemmas.Bool.{lt-ltb, le-leb, and_from, or_right}
-use Rattle.table.specs.Rows.{Plan, row, blank}
+use Rattle.table.specs.Rows.{blank}
 use Rattle.table.specs.Layout.{cores_of, tasks_of, ticks_of, rows_of, described}
 use Rattle.table.specs.Questions.{header_fault, rows_fault, or_else, unless, loaded, answered}
 use Rattle.table.specs.Lawful.{RowFits}

@@ -2,9 +2,9 @@
 use Rattle.std.proofs.Common.{◌≡◌, ℕ, zero, suc, ◌+◌, ◌-◌, ◌*◌, ◌/◌, ◌%◌, ◌^◌, ◌<◌, ◌≤◌, Bool, true, false, not, ◌&&◌, ◌||◌, eqb, ◌⊎◌, sym, refl, ap, ◌∙◌, inl, inr, ⊎_elim, arith}
 use lib.Bits.{bit_and, bit_or, and_shr, and_mod, or_shr, or_mod, and_le_r, and_le_l, or_lt}
 use Rattle.std.proofs.lemmas.Nat.{one_shl, pow_pos}
-use Rattle.std.proofs.lemmas.Bool.{cases_Bool, cases_eq, eqb-true, eqb-false, eq-eqb, ne_eqb, both_ways}
-use Rattle.table.specs.Below.{all_below, any_below}
-use Rattle.table.specs.Sets.{bit, has, bits_of, set_of, none, with, without, less, includes}
+use Rattle.std.proofs.lemmas.Bool.{cases_Bool, cases_eq, eq-eqb, ne_eqb, both_ways}
+use Rattle.table.specs.Below.{any_below}
+use Rattle.table.specs.Sets.{bit, has, bits_of, set_of, with, without, less, includes}
 use Rattle.table.specs.declared.rows.CoreSet.{CoreSet}
 use Rattle.table.proofs.Below.{all_at, all_from, any_at, any_none}
 use Rattle.table.proofs.Sets.{bit_suc, bit_zero, bit_past, bits_below, bits_at, plus_same, plus_other}

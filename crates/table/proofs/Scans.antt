@@ -1,11 +1,11 @@
 -- The loops of load over the rows of the bytes.
-use Rattle.std.proofs.Common.{◌≡◌, ℕ, zero, suc, ◌+◌, ◌-◌, ◌<◌, ◌≤◌, min, Bool, true, false, cond, not, ◌&&◌, ◌||◌, eqb, ltb, leb, ◌⊎◌, List, [], ◌∷◌, ◌++◌, length, get_or, take, set, Some, None, Option, sym, refl, ap, ◌∙◌, subst, inl, inr, ⊎_elim, arith}
+use Rattle.std.proofs.Common.{◌≡◌, ℕ, suc, ◌+◌, ◌-◌, ◌<◌, ◌≤◌, min, Bool, true, false, cond, not, ◌&&◌, ◌||◌, ltb, leb, ◌⊎◌, List, [], ◌∷◌, length, get_or, take, set, Some, None, Option, sym, refl, ap, ◌∙◌, inl, inr, ⊎_elim, arith}
 use Rattle.std.proofs.lemmas.List.FromFn.{map-range_with_len_more, take-map-range_with_len}
 use Rattle.std.proofs.lemmas.List.{get_or-set_same, get_or-set_other}
 use Rattle.std.proofs.lemmas.Bool.{cases_Bool, cases_eq, cases_lt, eq-eqb, ne_eqb, le-leb, lt-leb, or_left, or_right, or_from, cond-true, cond-false}
 use Rattle.table.specs.Below.{all_below}
 use Rattle.table.specs.Sets.{has}
-use Rattle.table.specs.Rows.{Plan, row, on, ends_by, kept_end, last_end}
+use Rattle.table.specs.Rows.{row, on, kept_end, last_end}
 use Rattle.table.specs.Layout.{cores_of, tasks_of, ticks_of, rows_of, row_at, described}
 use Rattle.table.specs.Questions.{span_fault, place_fault, some_ends_by, input_ok, input_fault, or_else, first_fault, header_fault, rows_fault}
 use Rattle.table.specs.Reading.{Heads, unreached, earliest_end, passes_by}

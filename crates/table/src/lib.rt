@@ -1,4 +1,6 @@
 // The table of a frame: its rows, the check of its bytes, and the waits between its tasks.
+#![tactic(auto)]
+
 mod bits;
 pub mod faults;
 pub mod lawful;

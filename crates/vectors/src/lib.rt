@@ -1,4 +1,6 @@
 // The vector board: notices between cores as bit vectors.
+#![tactic(auto)]
+
 pub mod board;
 pub mod notices;
 mod opening;

@@ -1,4 +1,6 @@
 // Loads the table in `table.isw`, starts its first task and brings it to its end, and says what was done.
+#![tactic(auto)]
+
 use anyhow::anyhow;
 use board::Board;
 use std::fs;

@@ -1,4 +1,4 @@
-use Rattle.std.proofs.Common.{◌≡◌, Ok, Err, sym, ap, ◌∙◌, subst}
+use Rattle.std.proofs.Common.{Ok, Err, sym, ap, ◌∙◌, subst}
 use Rattle.std.proofs.lemmas.Result.{err_from_is_err_and}
 use Rattle.table.specs.View.{Read}
 use Rattle.table.proofs.Accepts.{exactly_the_lawful, every_lawful_table}
@@ -14,7 +14,7 @@ returns-in_err-header c =
 pub invariant_of-result : goal.invariant_of-result
 invariant_of-result c =
     let done = c.in_ok-header.ensures in
-    (filled_sound c.args.bytes.now c.in_ok-header.header c.read_rows-rows.result done.2 done.0 c.read_rows-rows.ensures.is c.read_rows-rows.ensures.room, tt)
+    record { ok = filled_sound c.args.bytes.now c.in_ok-header.header c.read_rows-rows.result done.2 done.0 c.read_rows-rows.ensures.is c.read_rows-rows.ensures.room }
 
 pub returns : goal.returns
 returns c =

@@ -1,7 +1,6 @@
-use Rattle.std.proofs.Common.{◌≡◌, ℕ, ◌<◌, min, length, get_or, sym, refl, ap, ◌∙◌, arith}
+use Rattle.std.proofs.Common.{min, get_or, sym, refl, ap, ◌∙◌, arith}
 use Rattle.std.proofs.lemmas.List.{length-set, get_or-replicate}
-use Rattle.table.specs.Layout.{rows_of, row_at}
-use Rattle.table.specs.Reading.{unreached, earliest_end}
+use Rattle.table.specs.Reading.{unreached}
 use Rattle.table.specs.declared.rows.Row.{Row}
 use Rattle.table.proofs.Scans.{kept_more}
 use Rattle.table.proofs.questions.earliest_ends.Goals as goal

@@ -1,5 +1,5 @@
-use Rattle.std.proofs.Common.{◌≡◌, ℕ, ◌-◌, ◌<◌, get_or}
-use Rattle.table.specs.Layout.{described, rows_of}
+use Rattle.std.proofs.Common.{◌≡◌, ◌-◌}
+use Rattle.table.specs.Layout.{described}
 use Rattle.table.specs.Questions.{input_fault, first_fault}
 use Rattle.table.proofs.questions.first_input_fault.Given as goal
 

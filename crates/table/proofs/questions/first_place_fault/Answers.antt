@@ -1,8 +1,8 @@
-use Rattle.std.proofs.Common.{◌≡◌, ℕ, ◌-◌, ◌<◌, length, get_or, replicate, sym, refl, ap, ◌∙◌, arith}
+use Rattle.std.proofs.Common.{◌≡◌, ◌-◌, ◌<◌, get_or, sym, refl, ap, ◌∙◌, arith}
 use Rattle.std.proofs.lemmas.List.{length-set, get_or-replicate}
 use Rattle.table.specs.Rows.{last_end}
 use Rattle.table.specs.Layout.{described, rows_of, row_at}
-use Rattle.table.specs.Questions.{place_fault, first_fault, span_fault}
+use Rattle.table.specs.Questions.{place_fault, first_fault}
 use Rattle.table.specs.declared.rows.Row.{Row}
 use Rattle.table.proofs.Scans.{scan_found, scan_more, scan_done, kept_more, place_asked}
 use Rattle.table.proofs.questions.first_place_fault.Goals as goal

@@ -4,4 +4,4 @@ use Rattle.table.proofs.lawful.Table.new.Goals as goal
 
 pub invariant_of-result : goal.invariant_of-result
 unfolding sound
-invariant_of-result c = (refl, tt)
+invariant_of-result c = record { ok = refl }
