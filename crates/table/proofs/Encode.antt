@@ -1,6 +1,6 @@
 -- For every plan whose fields fit there are bytes that describe it: its fields, one after the other, make one long number, and the bytes are the digits of that number.
 use Rattle.std.proofs.Common.{◌≡◌, ℕ, zero, suc, ◌+◌, ◌-◌, ◌*◌, ◌/◌, ◌%◌, ◌^◌, ◌<◌, List, [], ◌∷◌, map, length, get_or, sym, refl, ap, ◌∙◌, add-one, arith}
-use Rattle.std.specs.List.{range_with_len, flat_map, AllByRecursion as All}
+use Rattle.std.specs.List.{range_with_len, flat_map, AllByRecursion}
 use Rattle.std.proofs.lemmas.Nat.{shr-shr, shr_high, mod_low, mod-pow-add, field_of}
 use Rattle.std.proofs.lemmas.List.FromFn.{length-map-range_with_len, get_or-map-range_with_len}
 use Rattle.std.proofs.ByRecursion.{All-from_get_or}
@@ -56,7 +56,7 @@ number a [] = a
 number a ((w, x) ∷ fs) = number (a * 2 ^ w + x) fs
 
 -- what stands before the fields is left when they are shifted out
-before : (fs : List Field) (a : ℕ) → All Small fs → number a fs / 2 ^ size fs ≡ a
+before : (fs : List Field) (a : ℕ) → AllByRecursion Small fs → number a fs / 2 ^ size fs ≡ a
 before [] a h = omega arith
 before ((w, x) ∷ fs) a (l, h) = sym (shr-shr _ (size fs) w) ∙ (ap (λ y. y / 2 ^ w) (before fs (a * 2 ^ w + x) h) ∙ shr_high a w x l)
 
@@ -65,7 +65,7 @@ abbrev Holds : List ℕ → ℕ → List Field → Type 0
 Holds bytes i [] = Unit {0}
 Holds bytes i ((w, x) ∷ fs) = ((j : ℕ) → j ≡ i → x ≡ field bytes j w) × Holds bytes (i + w) fs
 
-holds : (m a i : ℕ) (fs : List Field) → All Small fs → i + size fs ≡ 8 * m → Holds (bytes_of m (number a fs)) i fs
+holds : (m a i : ℕ) (fs : List Field) → AllByRecursion Small fs → i + size fs ≡ 8 * m → Holds (bytes_of m (number a fs)) i fs
 holds m a i [] h e = tt
 holds m a i ((w, x) ∷ fs) (l, h) e =
     let b : ℕ = a * 2 ^ w + x in (
@@ -85,7 +85,7 @@ rows_size : (rows : List Row) → size (flat_map row_fields rows) ≡ 88 * lengt
 rows_size [] = refl
 rows_size (r ∷ rs) = omega (arith, rows_size rs)
 
-rows_small : (rows : List Row) → ((t : ℕ) → t < length rows → RowFits (get_or rows t blank)) → All Small (flat_map row_fields rows)
+rows_small : (rows : List Row) → ((t : ℕ) → t < length rows → RowFits (get_or rows t blank)) → AllByRecursion Small (flat_map row_fields rows)
 rows_small [] each = tt
 rows_small (r ∷ rs) each =
     let f = each 0 (omega arith) in
@@ -99,7 +99,7 @@ rows_held bytes (r ∷ rs) i (c, (s, (e, (n, (b, hs))))) zero u h q =
 rows_held bytes (r ∷ rs) i (c, (s, (e, (n, (b, hs))))) (suc t) u h q = rows_held bytes rs (i + 3 + 28 + 28 + 21 + 8) hs t u (omega arith) (omega arith)
 
 -- a plan whose fields fit has bytes that describe it
-pub encodes : (p : Plan) → Fits p → (bytes : List ℕ) × All (λ b. b < 256) bytes × Describes bytes p
+pub encodes : (p : Plan) → Fits p → (bytes : List ℕ) × AllByRecursion (λ b. b < 256) bytes × Describes bytes p
 encodes p f = (
   bytes,
   below_256,
@@ -127,7 +127,7 @@ encodes p f = (
     length_bytes : length bytes ≡ m
     length_bytes = length-map-range_with_len (byte m n) 0 m
 
-    below_256 : All (λ b. b < 256) bytes
+    below_256 : AllByRecursion (λ b. b < 256) bytes
     below_256 = All-from_get_or (λ b. b < 256) bytes 0 (λ j h. omega (arith, byte_is m n j (8 * m - 8 * suc j) (omega (arith, length_bytes))))
 
     held : Holds bytes 0 (fields p)

@@ -1,6 +1,6 @@
 -- Which tables are lawful, in the subject's own words, and what is promised of load.
 use Rattle.std.specs.Prelude.{◌≡◌, ℕ, ◌+◌, ◌*◌, ◌^◌, ◌<◌, ◌≤◌, true, ◌⊎◌, List, length, Ok, slice_index_or}
-use Rattle.std.specs.List.{AllByRecursion as All}
+use Rattle.std.specs.List.{AllByRecursion}
 use Rattle.table.specs.Sets.{has}
 use Rattle.table.specs.Rows.{Plan, nothing, row}
 use Rattle.table.specs.Layout.{cores_of, tasks_of, ticks_of, row_at}
@@ -62,7 +62,7 @@ AcceptsExactlyTheLawful bytes = (p : Plan) → (loaded bytes ≡ Ok p → Descri
 
 -- for every lawful table whose fields fit there are bytes that load accepts and that give exactly this table
 abbrev pub AcceptsEveryLawfulTable : Type 0
-AcceptsEveryLawfulTable = (p : Plan) → Fits p → Lawful p → (bytes : List ℕ) × All (λ b. b < 256) bytes × (loaded bytes ≡ Ok p)
+AcceptsEveryLawfulTable = (p : Plan) → Fits p → Lawful p → (bytes : List ℕ) × AllByRecursion (λ b. b < 256) bytes × (loaded bytes ≡ Ok p)
 
 -- what every table value is: empty, or lawful with its fields within their widths
 abbrev pub EmptyOrLawful : Plan → Type 0

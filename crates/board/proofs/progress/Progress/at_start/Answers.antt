@@ -9,11 +9,10 @@ use Rattle.board.specs.Keeping.{keeps_opened, opened_front}
 
 pub invariant_of-result : goal.invariant_of-result
 invariant_of-result c =
-    let p = plan_of c.args.table.now in (
-      ap (λ (cs : List Core). keeps p cs c.first_tasks.result) (opened_front p c.first_cores.result.rows (few_cores c.args.table.now) c.first_cores.ensures)
-          ∙ (ap (λ (ns : List (Option ℕ)). keeps p (opened p) ns) c.first_tasks.ensures ∙ keeps_opened p (few_cores c.args.table.now)),
-      tt,
-    )
+    let p = plan_of c.args.table.now in record {
+      ok = ap (λ (cs : List Core). keeps p cs c.first_tasks.result) (opened_front p c.first_cores.result.rows (few_cores c.args.table.now) c.first_cores.ensures)
+          ∙ (ap (λ (ns : List (Option ℕ)). keeps p (opened p) ns) c.first_tasks.ensures ∙ keeps_opened p (few_cores c.args.table.now));
+    }
 
 pub returns : goal.returns
 returns c = record { plan = refl; progress = opened_front (plan_of c.args.table.now) c.first_cores.result.rows (few_cores c.args.table.now) c.first_cores.ensures }

@@ -26,7 +26,7 @@ bounds-self-core-2 c =
 pub invariant_of-self : goal.invariant_of-self
 invariant_of-self c =
     let l = runs_left c.args.self.now c.args.core c.core.result c.is_running.result c.core.ensures c.is_running.ensures c.if-not-is_running.false in
-    (ends_kept c.args.self.now c.args.core c.after_next-next.result c.untouched-rest.result c.end_one.new.self l c.after_next-next.ensures c.untouched-rest.ensures c.end_one.ensures, tt)
+    record { ok = ends_kept c.args.self.now c.args.core c.after_next-next.result c.untouched-rest.result c.end_one.new.self l c.after_next-next.ensures c.untouched-rest.ensures c.end_one.ensures }
 
 pub returns : goal.returns
 returns c =

@@ -13,11 +13,10 @@ pub invariant_of-self : goal.invariant_of-self
 invariant_of-self c =
     let x = c.args.self.now in
     let k = c.args.core in
-    let l = left_at x k c.requires.left in (
-      ap (λ (cs : List Core). keeps (plan_at x) cs x.nexts) (row_moved x k c.args.step c.move_to.new.self l.there c.move_to.ensures)
-          ∙ keeps_step (plan_at x) (progress_at x) x.nexts k c.args.step x.ok l.there l.left c.requires.more,
-      tt,
-    )
+    let l = left_at x k c.requires.left in record {
+      ok = ap (λ (cs : List Core). keeps (plan_at x) cs x.nexts) (row_moved x k c.args.step c.move_to.new.self l.there c.move_to.ensures)
+          ∙ keeps_step (plan_at x) (progress_at x) x.nexts k c.args.step x.ok l.there l.left c.requires.more;
+    }
 
 pub returns : goal.returns
 returns c =
