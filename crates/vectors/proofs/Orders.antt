@@ -1,20 +1,16 @@
 -- What an order leaves of a vector board: the state that it defines, which is again one that orders lead to.
-use Rattle.std.proofs.Common.{◌≡◌, ℕ, ◌<◌, Bool, true, false, cond, ◌&&◌, ltb, List, Some, None, Option, sym, refl, ap, ◌∙◌, subst, arith}
+use Rattle.std.proofs.Common.{◌≡◌, ℕ, ◌<◌, Bool, true, false, cond, ltb, Some, None, sym, refl, ap, ◌∙◌, subst, arith}
 use mathlib.Core.Logic.{∥∥₁_map}
-use Rattle.std.proofs.lemmas.Bool.{and_parts, cond-true, cond-false, true≢false}
+use Rattle.std.proofs.lemmas.Bool.{and_parts, cond-true, cond-false}
 use Rattle.table.specs.Rows.{Plan, row}
-use Rattle.table.specs.View.{plan_of}
-use Rattle.table.specs.declared.lawful.Table.{Table}
 use Rattle.table.specs.declared.rows.Row.{Row}
-use Rattle.table.specs.declared.rows.CoreSet.{CoreSet}
 use Rattle.table.proofs.Tables.{few_rows, nth_within}
 use Rattle.board.specs.Steps.{is_waiting, is_pending, is_running, is_over}
 use Rattle.board.specs.Standing.{plan_at, progress_at, loosened, launched}
-use Rattle.board.specs.Meaning.{clear, easable, eased, started, finished, step_of, next, opened, stepped}
-use Rattle.board.specs.declared.cores.Core.{Core}
+use Rattle.board.specs.Meaning.{eased, started, finished, step_of, next, opened, stepped}
 use Rattle.board.specs.declared.cores.Step.TheVariants.{Loose, Running}
 use Rattle.board.specs.declared.progress.Progress.{Progress}
-use Rattle.board.specs.Keeping.{left_at, pending_left, waiting_left}
+use Rattle.board.specs.Keeping.{left_at, waiting_left}
 use Rattle.vectors.specs.Links.{links_of}
 use Rattle.vectors.specs.Phases.{Standing, first_vectors, start_vectors, end_vectors, ease_vectors, vectors_clear, vectors_easable, board_eased, board_started, board_finished}
 use Rattle.vectors.specs.Linked.{dropped, ease_linked}

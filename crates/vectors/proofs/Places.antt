@@ -1,5 +1,5 @@
 -- The tasks of one core by their places, and how their waits grow along it.
-use Rattle.std.proofs.Common.{◌≡◌, ℕ, suc, ◌+◌, ◌<◌, ◌≤◌, Bool, true, leb, ◌⊎◌, List, [], ◌∷◌, length, take, count_by, sym, ap, ◌∙◌, subst, inl, inr, ⊎_elim, add-one, arith}
+use Rattle.std.proofs.Common.{◌≡◌, ℕ, suc, ◌+◌, ◌<◌, ◌≤◌, Bool, true, leb, ◌⊎◌, List, [], ◌∷◌, take, count_by, sym, ap, ◌∙◌, inl, inr, ⊎_elim, add-one, arith}
 use Rattle.std.proofs.lemmas.Bool.{cases_Bool, cases_eq, cases_lt, leb-true, le-leb, and_parts, and_from}
 use Rattle.table.specs.Rows.{Plan, row, on, ends_by, named, nth_on, tasks_on, wait}
 use Rattle.table.specs.declared.rows.Row.{Row}

@@ -1,5 +1,5 @@
 -- What the vectors of a table are made from: which task begins to wait on a core, and which task completes that wait.
-use Rattle.std.specs.Prelude.{ℕ, ◌+◌, ◌-◌, Bool, true, false, cond, not, ◌&&◌, [], map, length, take, Some, None, Option, ◌==◌, nat_lt, slice_index_or}
+use Rattle.std.specs.Prelude.{ℕ, ◌+◌, ◌-◌, Bool, false, cond, not, ◌&&◌, [], map, length, take, Some, None, Option, ◌==◌, nat_lt, slice_index_or}
 use Rattle.std.specs.List.{range_with_len}
 use Rattle.table.specs.Below.{first_from}
 use Rattle.table.specs.Rows.{Plan, row, on, named, nth_on, tasks_on, wait}

@@ -1,6 +1,6 @@
 -- The vectors at the opening and after each order, to be read beside the published ready, notify and relax phases.
 -- Left out everywhere: the bit of a core in its own vectors. A core runs its tasks in their order, so that bit says nothing.
-use Rattle.std.specs.Prelude.{ℕ, zero, suc, Bool, cond, not, ◌&&◌, List, [], map, set, replicate, is_some, Some, None, Option, nat_lt, slice_index_or, slice_set}
+use Rattle.std.specs.Prelude.{ℕ, zero, suc, Bool, cond, not, ◌&&◌, List, [], map, replicate, is_some, Some, None, Option, nat_lt, slice_index_or, slice_set}
 use Rattle.std.specs.List.{range_with_len}
 use Rattle.table.specs.Below.{any_below}
 use Rattle.table.specs.Sets.{has, set_of, none, with, without, less, includes}

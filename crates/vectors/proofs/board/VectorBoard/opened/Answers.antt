@@ -1,21 +1,15 @@
-use Rattle.std.proofs.Common.{◌≡◌, sym, ap, ◌∙◌, subst}
-use Rattle.table.specs.Rows.{Plan}
+use Rattle.std.proofs.Common.{sym, ap, ◌∙◌}
 use Rattle.table.specs.View.{plan_of}
-use Rattle.board.specs.Standing.{plan_at, progress_at}
 use Rattle.board.specs.Meaning.{opened}
 use Rattle.vectors.specs.Links.{links_of}
-use Rattle.vectors.specs.Phases.{first_vectors}
-use Rattle.vectors.specs.Reached.{Reached, at_opening, standing, first_standing}
+use Rattle.vectors.specs.Reached.{standing}
 use Rattle.vectors.proofs.Orders.{reached_first}
 use Rattle.vectors.proofs.board.VectorBoard.opened.Goals as goal
 
 pub invariant_of-result : goal.invariant_of-result
 invariant_of-result c =
     let p = plan_of c.args.table.now in
-    let x = c.open.new.self in (
-      reached_first p x c.first_vectors-vectors.result c.open.ensures.plan c.open.ensures.progress c.first_vectors-vectors.ensures,
-      (c.links-links.ensures ∙ ap links_of (sym c.open.ensures.plan), tt),
-    )
+    let x = c.open.new.self in record { reached = reached_first p x c.first_vectors-vectors.result c.open.ensures.plan c.open.ensures.progress c.first_vectors-vectors.ensures; linked = c.links-links.ensures ∙ ap links_of (sym c.open.ensures.plan) }
 
 pub returns : goal.returns
 returns c = record {

@@ -1,4 +1,4 @@
-use Rattle.std.proofs.Common.{◌≡◌, true, false, Some, sym, refl, ap, ◌∙◌}
+use Rattle.std.proofs.Common.{◌≡◌, true, sym, refl, ap, ◌∙◌}
 use Rattle.std.proofs.lemmas.Bool.{cond-false, both_ways}
 use Rattle.board.specs.Meaning.{easable}
 use Rattle.table.specs.Rows.{Plan, row}
@@ -32,10 +32,7 @@ after c =
 
 pub invariant_of-self : goal.invariant_of-self
 invariant_of-self c =
-    let b = c.args.self.now in (
-      reached_on b c.loosen.new.self c.ease.new.self (board_eased (plan_on b) (standing_of b) c.args.core) c.loosen.ensures.plan (after c) (by_easing (standing_of b) c.args.core),
-      (linked_on b c.loosen.new.self c.loosen.ensures.plan, tt),
-    )
+    let b = c.args.self.now in record { reached = reached_on b c.loosen.new.self c.ease.new.self (board_eased (plan_on b) (standing_of b) c.args.core) c.loosen.ensures.plan (after c) (by_easing (standing_of b) c.args.core); linked = linked_on b c.loosen.new.self c.loosen.ensures.plan }
 
 pub returns : goal.returns
 returns c =

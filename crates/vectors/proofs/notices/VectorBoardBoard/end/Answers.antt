@@ -1,4 +1,4 @@
-use Rattle.std.proofs.Common.{◌≡◌, ℕ, Bool, true, false, get_or, Some, sym, refl, ap, ◌∙◌}
+use Rattle.std.proofs.Common.{◌≡◌, ℕ, Bool, true, get_or, sym, refl, ap, ◌∙◌}
 use Rattle.std.proofs.lemmas.Bool.{cond-false, both_ways}
 use Rattle.board.specs.Meaning.{idle, step_of}
 use Rattle.board.specs.Steps.{is_running}
@@ -38,10 +38,7 @@ after c =
 
 pub invariant_of-self : goal.invariant_of-self
 invariant_of-self c =
-    let b = c.args.self.now in (
-      reached_on b c.end-2.new.self c.end.new.self (board_finished (plan_on b) (standing_of b) c.args.core) c.end-2.ensures.plan (after c) (by_end (standing_of b) c.args.core),
-      (linked_on b c.end-2.new.self c.end-2.ensures.plan, tt),
-    )
+    let b = c.args.self.now in record { reached = reached_on b c.end-2.new.self c.end.new.self (board_finished (plan_on b) (standing_of b) c.args.core) c.end-2.ensures.plan (after c) (by_end (standing_of b) c.args.core); linked = linked_on b c.end-2.new.self c.end-2.ensures.plan }
 
 pub returns : goal.returns
 returns c =

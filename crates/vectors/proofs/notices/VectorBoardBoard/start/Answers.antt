@@ -1,4 +1,4 @@
-use Rattle.std.proofs.Common.{◌≡◌, true, false, Some, sym, refl, ap, ◌∙◌}
+use Rattle.std.proofs.Common.{◌≡◌, true, sym, refl, ap, ◌∙◌}
 use Rattle.std.proofs.lemmas.Bool.{cond-false, both_ways}
 use Rattle.board.specs.Meaning.{clear}
 use Rattle.board.specs.Standing.{progress_at}
@@ -31,10 +31,7 @@ after c =
 
 pub invariant_of-self : goal.invariant_of-self
 invariant_of-self c =
-    let b = c.args.self.now in (
-      reached_on b c.run.new.self c.start.new.self (board_started (plan_on b) (standing_of b) c.args.core) c.run.ensures.plan (after c) (by_start (standing_of b) c.args.core),
-      (linked_on b c.run.new.self c.run.ensures.plan, tt),
-    )
+    let b = c.args.self.now in record { reached = reached_on b c.run.new.self c.start.new.self (board_started (plan_on b) (standing_of b) c.args.core) c.run.ensures.plan (after c) (by_start (standing_of b) c.args.core); linked = linked_on b c.run.new.self c.run.ensures.plan }
 
 pub returns : goal.returns
 returns c =

@@ -1,4 +1,4 @@
-use Rattle.std.proofs.Common.{◌≡◌, ℕ, List, get_or, replicate, None, Option, ap, ◌∙◌}
+use Rattle.std.proofs.Common.{ℕ, List, get_or, replicate, None, Option, ap, ◌∙◌}
 use Rattle.vectors.proofs.Tells.{row_read}
 use Rattle.vectors.proofs.state.Links.completer.Goals as goal
 

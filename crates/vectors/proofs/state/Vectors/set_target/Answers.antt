@@ -1,4 +1,4 @@
-use Rattle.std.proofs.Common.{◌≡◌, ℕ, List, get_or, set, replicate, Some, None, Option, sym, ap, ◌∙◌}
+use Rattle.std.proofs.Common.{◌≡◌, ℕ, List, get_or, set, replicate, Some, None, Option, ap, ◌∙◌}
 use Rattle.vectors.proofs.Tells.{row_set}
 use Rattle.vectors.specs.declared.state.Vectors.{Vectors}
 use Rattle.vectors.proofs.state.Vectors.set_target.Goals as goal
