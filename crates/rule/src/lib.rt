@@ -1,3 +1,5 @@
+#![tactic(auto)]
+
 ghost use Rattle.std.specs.Prelude.{Bool, ◌≡◌};
 ghost use Rattle.rule.specs.Law.{Covered};
 ghost use Rattle.rule.specs.declared.question.Question.{Question};
