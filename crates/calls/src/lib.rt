@@ -1,4 +1,6 @@
 // The calls of a frame and the replies to them.
+#![tactic(auto)]
+
 ghost use Rattle.std.specs.Prelude.{◌≡◌, Some};
 ghost use Rattle.calls.specs.Words.{word_of, task_of, number_of, line_of};
 
