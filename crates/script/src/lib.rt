@@ -1,4 +1,6 @@
 // One line of a session script: a call to play, nothing, or a line that is no good.
+#![tactic(auto)]
+
 ghost use Rattle.std.specs.Prelude.{◌≡◌, ◌≤◌, length};
 ghost use Rattle.script.specs.Grammar.{read, read_call, read_command, read_ask, read_end, close, play};
 ghost use Rattle.script.specs.Lines.{ReadsExactly};

@@ -14,8 +14,8 @@ returns-in_default c =
     sym (sym c.loop-byte.invariant.1
     ∙ value_at_other c.args.digits.now c.loop-byte.byte-index c.loop-byte.value (omega arith) (digit_low (get_or c.args.digits.now c.loop-byte.byte-index 0) (omega arith)))
 
-pub returns-in_default·2 : goal.returns-in_default·2
-returns-in_default·2 c =
+pub returns-in_default-2 : goal.returns-in_default-2
+returns-in_default-2 c =
     sym (sym c.loop-byte.invariant.1
     ∙ value_at_other c.args.digits.now c.loop-byte.byte-index c.loop-byte.value (omega arith) (digit_high (get_or c.args.digits.now c.loop-byte.byte-index 0) (omega arith)))
 
