@@ -1,11 +1,10 @@
 -- What a frame remembers, and what each of its calls answers and leaves.
-use Rattle.std.specs.Prelude.{ℕ, suc, Bool, true, false, cond, not, ◌&&◌, ◌||◌, List, [], ◌∷◌, ◌++◌, length, get_or, drop, replicate, ℤ, pos, ◌-ℤ◌, Some, None, Ok, Err, Option, Result, ◌==◌, nat_le, nat_lt, slice_index_or, slice_set}
+use Rattle.std.specs.Prelude.{ℕ, Bool, false, cond, not, ◌&&◌, ◌||◌, List, [], ◌∷◌, ◌++◌, length, get_or, drop, replicate, ℤ, pos, ◌-ℤ◌, Some, None, Ok, Err, Option, Result, ◌==◌, nat_le, nat_lt, slice_index_or, slice_set}
 use Rattle.table.specs.Rows.{Plan, row}
 use Rattle.table.specs.declared.rows.Row.{Row}
 use Rattle.board.specs.Steps.{is_loose, is_running, is_over}
 use Rattle.board.specs.Meaning.{ended_on, step_of, next, next_task, clear, easable, stepped, ended_one, opened}
 use Rattle.board.specs.declared.cores.Core.{Core}
-use Rattle.board.specs.declared.cores.Step.{Step}
 use Rattle.board.specs.declared.cores.Step.TheVariants.{Running, Loose as LooseStep}
 use Rattle.rule.specs.Law.{Says}
 use Rattle.rule.specs.declared.question.Question.{Question}
