@@ -2,7 +2,7 @@
 use Rattle.std.proofs.Common.{◌≡◌, ℕ, zero, suc, ◌≤◌, cond, eqb, List, [], ◌∷◌, ◌++◌, length, take, drop, Some, sym, refl, ap, ◌∙◌, subst, ⊎_elim, append_assoc, arith, take-append-drop}
 use Rattle.std.proofs.lemmas.List.{take_at, drop_at}
 use Rattle.std.proofs.lemmas.Bool.{eqb-true, eq-eqb, ne_eqb, cond-true, cond-false, cases_Bool}
-use Rattle.std.specs.List.{AllByRecursion as All}
+use Rattle.std.specs.List.{AllByRecursion}
 use Rattle.script.specs.Grammar.{spaces_off, word_length, next_word, after_word, number}
 use Rattle.script.specs.Lines.{spaces, Digit, Numbered}
 use Rattle.script.proofs.Values.{figures, number_from_figures}
@@ -41,12 +41,12 @@ opens_after (b ∷ bs) =
     (cases_Bool (eqb b 32))
 
 -- a word before a space or the end is as long as it is
-pub word_length_is : (w rest : List ℕ) → All Dark w → Opens rest → word_length (w ++ rest) ≡ length w
+pub word_length_is : (w rest : List ℕ) → AllByRecursion Dark w → Opens rest → word_length (w ++ rest) ≡ length w
 word_length_is [] [] dark open_rest = refl
 word_length_is [] (b ∷ bs) dark opens = ap (λ x. cond (eqb x 32) 0 (suc (word_length bs))) opens
 word_length_is (b ∷ w) rest dark opens = cond-false _ _ _ (ne_eqb b 32 dark.0) ∙ ap suc (word_length_is w rest dark.1 opens)
 
-pub spaces_off_word : (w rest : List ℕ) → 1 ≤ length w → All Dark w → spaces_off (w ++ rest) ≡ w ++ rest
+pub spaces_off_word : (w rest : List ℕ) → 1 ≤ length w → AllByRecursion Dark w → spaces_off (w ++ rest) ≡ w ++ rest
 spaces_off_word [] rest some dark = absurd (omega arith)
 spaces_off_word (b ∷ w) rest some dark = cond-false _ _ _ (ne_eqb b 32 dark.0)
 
@@ -55,13 +55,13 @@ spaces_off_spaces zero text = refl
 spaces_off_spaces (suc k) text = spaces_off_spaces k text
 
 -- a word after spaces: what it is, and what follows it
-pub word_reads : (k : ℕ) (w rest : List ℕ) → 1 ≤ length w → All Dark w → Opens rest → (next_word (spaces k ++ (w ++ rest)) ≡ w) × (after_word (spaces k ++ (w ++ rest)) ≡ rest)
+pub word_reads : (k : ℕ) (w rest : List ℕ) → 1 ≤ length w → AllByRecursion Dark w → Opens rest → (next_word (spaces k ++ (w ++ rest)) ≡ w) × (after_word (spaces k ++ (w ++ rest)) ≡ rest)
 word_reads k w rest some dark opens =
     let off : spaces_off (spaces k ++ (w ++ rest)) ≡ w ++ rest = spaces_off_spaces k (w ++ rest) ∙ spaces_off_word w rest some dark in
     let long = word_length_is w rest dark opens in
     (ap (λ l. take (word_length l) l) off ∙ take_at w rest (word_length (w ++ rest)) (sym long), ap (λ l. drop (word_length l) l) off ∙ drop_at w rest (word_length (w ++ rest)) (sym long))
 
-dark_digits : (ds : List ℕ) → All Digit ds → All Dark ds
+dark_digits : (ds : List ℕ) → AllByRecursion Digit ds → AllByRecursion Dark ds
 dark_digits [] all = tt
 dark_digits (d ∷ ds) all = (λ is. let low = all.0.0 in omega arith, dark_digits ds all.1)
 

@@ -2,7 +2,7 @@
 use Rattle.std.proofs.Common.{◌≡◌, ℕ, ◌+◌, ◌-◌, ◌*◌, ◌^◌, ◌≤◌, ◌&&◌, leb, List, [], ◌∷◌, length, Some, None, sym, ap, ◌∙◌, ⊎_elim, mul_assoc, mul_comm, add-mul, arith}
 use native.Mathlib.Nat.{pow-succ'}
 use Rattle.std.proofs.lemmas.Bool.{leb-true, and_parts, cond-true, cond-false, cases_Bool}
-use Rattle.std.specs.List.{AllByRecursion as All}
+use Rattle.std.specs.List.{AllByRecursion}
 use Rattle.script.specs.Grammar.{is_digit, digits_value, number}
 use Rattle.script.specs.Lines.{Digit, value}
 use Rattle.script.proofs.Scan.{digit_true, number_few}
@@ -14,7 +14,7 @@ step n d p v =
     omega arith
 
 -- from digits to their value
-pub value_from_digits : (n : ℕ) (ds : List ℕ) → All Digit ds → digits_value n ds ≡ Some (n * 10 ^ length ds + value ds)
+pub value_from_digits : (n : ℕ) (ds : List ℕ) → AllByRecursion Digit ds → digits_value n ds ≡ Some (n * 10 ^ length ds + value ds)
 value_from_digits n [] all = ap Some (omega arith)
 value_from_digits n (d ∷ ds) all =
     cond-true _ _ _ (digit_true d all.0.0 all.0.1)
@@ -22,7 +22,7 @@ value_from_digits n (d ∷ ds) all =
     ∙ ap Some (step n (d - 48) (10 ^ length ds) (value ds) ∙ ap (λ x. n * x + ((d - 48) * 10 ^ length ds + value ds)) (sym (pow-succ' 10 (length ds))))
 
 -- a word that has a value is digits
-pub digits_from_value : (n m : ℕ) (ds : List ℕ) → digits_value n ds ≡ Some m → All Digit ds
+pub digits_from_value : (n m : ℕ) (ds : List ℕ) → digits_value n ds ≡ Some m → AllByRecursion Digit ds
 digits_from_value n m [] h = tt
 digits_from_value n m (d ∷ ds) h =
     ⊎_elim
@@ -35,7 +35,7 @@ digits_from_value n m (d ∷ ds) h =
 pub record Figures (word : List ℕ) (n : ℕ) : Type 0 where
   pub some : 1 ≤ length word
   pub few : length word ≤ 9
-  pub plain : All Digit word
+  pub plain : AllByRecursion Digit word
   pub writes : value word ≡ n
 
 pub figures : (word : List ℕ) (n : ℕ) → number word ≡ Some n → Figures word n

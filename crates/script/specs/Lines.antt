@@ -1,6 +1,6 @@
 -- Which lines write which call.
 use Rattle.std.specs.Prelude.{◌≡◌, ℕ, ◌+◌, ◌-◌, ◌*◌, ◌^◌, ◌≤◌, List, [], ◌∷◌, ◌++◌, length, replicate, codes}
-use Rattle.std.specs.List.{AllByRecursion as All}
+use Rattle.std.specs.List.{AllByRecursion}
 use Rattle.calls.specs.declared.Call.{Call}
 use Rattle.calls.specs.declared.Call.TheVariants.{Ask, End}
 use Rattle.script.specs.declared.Line.TheVariants.{Play}
@@ -27,7 +27,7 @@ pub record Numbered (part : List ℕ) (n : ℕ) : Type 0 where
   pub apart : 1 ≤ gap
   pub some : 1 ≤ length digits
   pub few : length digits ≤ 9
-  pub plain : All Digit digits
+  pub plain : AllByRecursion Digit digits
   pub writes : value digits ≡ n
 
 -- the line is the word ask, a core and a time, in at most 80 bytes
