@@ -1,4 +1,4 @@
-use Rattle.std.proofs.Common.{◌≡◌, ◌+◌, ap, ◌∙◌, arith}
+use Rattle.std.proofs.Common.{◌+◌, ap, ◌∙◌, arith}
 use Rattle.runs.specs.Calls.{at_large, next_row}
 use Rattle.frame.specs.View.{state_of}
 use Rattle.frame.proofs.Frame.all_at_large.Goals as goal

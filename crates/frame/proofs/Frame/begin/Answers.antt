@@ -1,4 +1,4 @@
-use Rattle.std.proofs.Common.{◌≡◌, ℕ, length, take, set, refl, ap, ◌∙◌}
+use Rattle.std.proofs.Common.{ℕ, length, take, set, refl, ap, ◌∙◌}
 use Rattle.std.proofs.lemmas.Bool.{cond-true}
 use Rattle.table.specs.Rows.{Plan}
 use Rattle.board.specs.Meaning.{clear, stepped}

@@ -1,4 +1,4 @@
-use Rattle.std.proofs.Common.{◌≡◌, sym, ◌∙◌, arith, rules}
+use Rattle.std.proofs.Common.{sym, arith}
 use Rattle.board.specs.Meaning.{next}
 use Rattle.frame.proofs.Frame.next_row.Goals as goal
 use Rattle.frame.proofs.Parts.{unnamed_next, blank_row}

@@ -1,4 +1,4 @@
-use Rattle.std.proofs.Common.{◌≡◌, length, refl}
+use Rattle.std.proofs.Common.{length, refl}
 use Rattle.std.proofs.lemmas.List.{take-replicate}
 use Rattle.table.specs.View.{plan_of}
 use Rattle.table.proofs.Tables.{few_rows}
