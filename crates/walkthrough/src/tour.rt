@@ -5,7 +5,7 @@ use board::Board;
 
 // The first core that is clear, if there is one.
 pub fn first_clear<B: Board>(board: &B) -> Option<u32>
-    ensures { result ≡ first_clear (plan board.now) (progress board.now) }
+    ensures { result ≡ first_clear (B.plan board.now) (B.progress board.now) }
 {
     for core in 0..u32::from(board.table().cores()) {
         if board.clear(core) {
