@@ -4,6 +4,7 @@
 use anyhow::anyhow;
 use board::Board;
 use std::fs;
+use std::process::ExitCode;
 use table::lawful::Table;
 use vectors::board::VectorBoard;
 
@@ -77,10 +78,10 @@ fn walk(rt: &HostRuntime) -> anyhow::Result<()> {
     run_one(rt, &mut board)
 }
 
-fn main(rt: HostRuntime) -> anyhow::Result<()> {
-    let walked = walk(&rt);
-    if let Err(error) = &walked {
-        eprintln!(rt; "{error}")?;
-    }
-    walked
+fn main(rt: HostRuntime) -> ExitCode {
+    let Err(error) = walk(&rt) else {
+        return ExitCode::SUCCESS;
+    };
+    let _ = eprintln!(rt; "{error}");
+    ExitCode::FAILURE
 }
