@@ -15,7 +15,7 @@ use std::process::Abort;
 use std::test::Fail;
 use table::lawful::Table;
 use table::rows::Row;
-use vectors::board::VectorBoard;
+use vectors::vector_board::VectorBoard;
 
 // A table of these rows.
 fn loaded(

@@ -6,7 +6,7 @@ use std::process::Abort;
 use std::test::Fail;
 use table::lawful::Table;
 use table::rows::{CoreSet, Row};
-use vectors::board::VectorBoard;
+use vectors::vector_board::VectorBoard;
 
 // A board that is open on a table of these rows.
 fn opened(

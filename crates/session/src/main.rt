@@ -11,7 +11,7 @@ use std::fs::File;
 use std::io;
 use std::io::{BufWriter, Read, Stdout, Write};
 use table::lawful::Table;
-use vectors::board::VectorBoard;
+use vectors::vector_board::VectorBoard;
 
 const FILE: &str = "table.isw";
 

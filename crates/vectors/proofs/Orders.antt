@@ -16,7 +16,7 @@ use Rattle.vectors.specs.Phases.{Standing, first_vectors, start_vectors, end_vec
 use Rattle.vectors.specs.Linked.{dropped, ease_linked}
 use Rattle.vectors.specs.Reached.{Reached, at_opening, standing, first_standing}
 use Rattle.vectors.specs.View.{plan_on, standing_of, task_if}
-use Rattle.vectors.specs.declared.board.VectorBoard.{VectorBoard}
+use Rattle.vectors.specs.declared.vector_board.VectorBoard.{VectorBoard}
 use Rattle.vectors.specs.declared.state.Links.{Links}
 use Rattle.vectors.specs.declared.state.Vectors.{Vectors}
 use Rattle.vectors.proofs.Stands.{clear_means, easable_means, ease_is}

@@ -23,7 +23,7 @@ use Rattle.vectors.specs.Phases.{Standing, ready_of, status_of, set_ready, hand_
 use Rattle.vectors.specs.Linked.{dropped, drop_linked, ease_linked}
 use Rattle.vectors.specs.Reached.{Reached, at_opening, by_easing, by_start, by_end}
 use Rattle.vectors.specs.View.{plan_on, standing_of}
-use Rattle.vectors.specs.declared.board.VectorBoard.{VectorBoard}
+use Rattle.vectors.specs.declared.vector_board.VectorBoard.{VectorBoard}
 use Rattle.vectors.specs.declared.state.Vectors.{Vectors}
 use Rattle.table.proofs.Ordered.{Ordered, ordered}
 use Rattle.vectors.proofs.Agree.{Agree, clear_right, easable_right}

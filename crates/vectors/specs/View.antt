@@ -5,7 +5,7 @@ use Rattle.board.specs.Meaning.{next}
 use Rattle.board.specs.Standing.{plan_at, progress_at}
 use Rattle.vectors.specs.Phases.{Standing}
 use Rattle.vectors.specs.Reached.{standing}
-use Rattle.vectors.specs.declared.board.VectorBoard.{VectorBoard}
+use Rattle.vectors.specs.declared.vector_board.VectorBoard.{VectorBoard}
 
 abbrev pub plan_on : VectorBoard → Plan
 plan_on b = plan_at b.progress

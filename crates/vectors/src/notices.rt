@@ -9,8 +9,8 @@ ghost use Rattle.vectors.specs.Reached.{first_standing};
 ghost use Rattle.vectors.specs.View.{plan_on, standing_of, task_if};
 ghost use Rattle.board.specs.Keeping.{progress_lawful, progress_left};
 
-use crate::board::VectorBoard;
 use crate::opening::{first_vectors, links};
+use crate::vector_board::VectorBoard;
 use board::Board;
 use board::cores::Core;
 use board::progress::Progress;

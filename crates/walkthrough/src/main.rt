@@ -6,7 +6,7 @@ use board::Board;
 use std::fs;
 use std::process::ExitCode;
 use table::lawful::Table;
-use vectors::board::VectorBoard;
+use vectors::vector_board::VectorBoard;
 
 mod tour;
 

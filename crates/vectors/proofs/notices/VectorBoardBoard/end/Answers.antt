@@ -6,7 +6,7 @@ use Rattle.board.specs.declared.cores.Core.{Core}
 use Rattle.board.specs.Standing.{progress_at}
 use Rattle.vectors.specs.Phases.{Standing, board_finished}
 use Rattle.vectors.specs.Reached.{standing, by_end}
-use Rattle.vectors.specs.declared.board.VectorBoard.{VectorBoard}
+use Rattle.vectors.specs.declared.vector_board.VectorBoard.{VectorBoard}
 use Rattle.vectors.specs.View.{plan_on, standing_of, task_if}
 use Rattle.vectors.proofs.Orders.{some_task, none_task, finished_means, ended_standing, reached_on, linked_on}
 use Rattle.vectors.proofs.notices.VectorBoardBoard.end.Goals as goal

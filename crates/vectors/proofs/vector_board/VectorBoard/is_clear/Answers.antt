@@ -4,7 +4,7 @@ use Rattle.board.proofs.Asking.{asked_from, asked_not, asked_none, over_pending}
 use Rattle.board.specs.Keeping.{pending_left}
 use Rattle.vectors.specs.Phases.{noticed}
 use Rattle.vectors.proofs.Stands.{clear_means}
-use Rattle.vectors.proofs.board.VectorBoard.is_clear.Goals as goal
+use Rattle.vectors.proofs.vector_board.VectorBoard.is_clear.Goals as goal
 
 pub returns-then-is_pending : goal.returns-then-is_pending
 returns-then-is_pending c =

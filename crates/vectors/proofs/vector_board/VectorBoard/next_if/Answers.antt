@@ -1,7 +1,7 @@
 use Rattle.std.proofs.Common.{sym, ap, ◌∙◌}
 use Rattle.vectors.specs.View.{plan_on, standing_of, task_if}
 use Rattle.vectors.proofs.Stands.{going_task}
-use Rattle.vectors.proofs.board.VectorBoard.next_if.Goals as goal
+use Rattle.vectors.proofs.vector_board.VectorBoard.next_if.Goals as goal
 
 pub returns-then-yes : goal.returns-then-yes
 returns-then-yes c =

@@ -4,7 +4,7 @@ use Rattle.board.specs.Meaning.{opened}
 use Rattle.vectors.specs.Links.{links_of}
 use Rattle.vectors.specs.Reached.{standing}
 use Rattle.vectors.proofs.Orders.{reached_first}
-use Rattle.vectors.proofs.board.VectorBoard.opened.Goals as goal
+use Rattle.vectors.proofs.vector_board.VectorBoard.opened.Goals as goal
 
 pub invariant_of-result : goal.invariant_of-result
 invariant_of-result c =

@@ -6,7 +6,7 @@ use Rattle.board.specs.Keeping.{waiting_left}
 use Rattle.vectors.specs.Phases.{drops}
 use Rattle.vectors.specs.View.{plan_on}
 use Rattle.vectors.proofs.Stands.{easable_means, some_dropped}
-use Rattle.vectors.proofs.board.VectorBoard.is_easable.Goals as goal
+use Rattle.vectors.proofs.vector_board.VectorBoard.is_easable.Goals as goal
 
 pub returns-then-is_waiting : goal.returns-then-is_waiting
 returns-then-is_waiting c =
