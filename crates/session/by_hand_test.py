@@ -1,7 +1,7 @@
 #!/usr/bin/env python3
 """Uses the program `session` as somebody at a terminal would, and as another program would, through pipes.
 
-After `rt check session`: crates/session/by_hand_test.py [PROGRAM]. It says what passed; its status is 0 if all did.
+Once `./play` has run: crates/session/by_hand_test.py [PROGRAM]. It says what passed; its status is 0 if all did.
 """
 import contextlib
 import os
@@ -17,7 +17,7 @@ import threading
 import time
 
 HERE = pathlib.Path(__file__).resolve().parent
-PROGRAM = pathlib.Path(sys.argv[1] if len(sys.argv) > 1 else HERE.parent.parent / "target/bin/session").resolve()
+PROGRAM = pathlib.Path(sys.argv[1] if len(sys.argv) > 1 else HERE / "out/session").resolve()
 TABLE = (HERE / "data/table.isw").read_bytes()
 WAIT = 20  # the seconds after which a reply counts as missing
 MOST_MEMORY = 16 * 1024  # in KiB
