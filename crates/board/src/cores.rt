@@ -17,47 +17,32 @@ impl Step {
     pub fn is_waiting(self) -> bool
         ensures { result ≡ is_waiting self }
     {
-        match self {
-            Step::Waiting => true,
-            Step::Loose | Step::Running | Step::Over => false,
-        }
+        matches!(self, Step::Waiting)
     }
 
     pub fn is_loose(self) -> bool
         ensures { result ≡ is_loose self }
     {
-        match self {
-            Step::Loose => true,
-            Step::Waiting | Step::Running | Step::Over => false,
-        }
+        matches!(self, Step::Loose)
     }
 
     pub fn is_over(self) -> bool
         ensures { result ≡ is_over self }
     {
-        match self {
-            Step::Over => true,
-            Step::Waiting | Step::Loose | Step::Running => false,
-        }
+        matches!(self, Step::Over)
     }
 
     // The next task has not started.
     pub fn is_pending(self) -> bool
         ensures { result ≡ is_pending self }
     {
-        match self {
-            Step::Waiting | Step::Loose => true,
-            Step::Running | Step::Over => false,
-        }
+        matches!(self, Step::Waiting | Step::Loose)
     }
 
     pub fn is_running(self) -> bool
         ensures { result ≡ is_running self }
     {
-        match self {
-            Step::Running => true,
-            Step::Waiting | Step::Loose | Step::Over => false,
-        }
+        matches!(self, Step::Running)
     }
 }
 
