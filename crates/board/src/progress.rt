@@ -1,6 +1,6 @@
 ghost use Rattle.std.specs.Prelude.{◌≡◌, true, take};
 ghost use Rattle.table.specs.View.{plan_of};
-ghost use Rattle.board.specs.Keeps.{keeps};
+ghost use Rattle.board.specs.Keeps.{cores_of, keeps, nexts_of};
 
 use crate::cores::Cores;
 use table::lawful::Table;
@@ -10,6 +10,5 @@ use table::lawful::Table;
 pub struct Progress {
     pub(crate) table: Table,
     pub(crate) cores: Cores,
-    pub(crate) nexts: [Option<u16>; 8],
-    ghost ok: { keeps (plan_of table) (take (plan_of table).cores cores.rows) nexts ≡ true },
+    ghost ok: { keeps (plan_of table) (take (plan_of table).cores (cores_of cores.rows)) (nexts_of cores.rows) ≡ true },
 }

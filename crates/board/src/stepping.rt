@@ -1,49 +1,13 @@
-ghost use Rattle.std.specs.Prelude.{◌≡◌, suc, false, [], map, slice_index_or};
-ghost use Rattle.std.specs.List.{range_with_len};
+ghost use Rattle.std.specs.Prelude.{◌≡◌, suc, false, [], slice_index_or};
 ghost use Rattle.table.specs.Rows.{named, nothing, nth_on};
 ghost use Rattle.table.specs.View.{plan_of};
 ghost use Rattle.board.specs.Steps.{is_over, is_pending, is_running, is_waiting};
-ghost use Rattle.board.specs.Meaning.{ended_on, finished, idle, next_task, opened, rested, step_of, stepped};
-ghost use Rattle.board.specs.Standing.{launched, loosened, plan_at, progress_at, untouched};
+ghost use Rattle.board.specs.Meaning.{ended_on, finished, idle, next_task, opened, step_of, stepped};
+ghost use Rattle.board.specs.Standing.{launched, loosened, plan_at, progress_at};
 
-use crate::cores::{Core, Cores, Step};
+use crate::cores::{Core, CoreRow, Cores, Step};
 use crate::progress::Progress;
 use table::lawful::Table;
-
-// The step of a core whose next task has not been touched.
-fn untouched(next: Option<u16>) -> Step
-    ensures { result ≡ untouched next }
-{
-    match next {
-        Some(_) => Step::Waiting,
-        None => Step::Over,
-    }
-}
-
-// The first task of each core.
-fn first_tasks(table: &Table) -> [Option<u16>; 8]
-    ensures { result ≡ map (λ k. named (nth_on k 0 0 (plan_of table.now).rows)) (range_with_len 0 8) }
-{
-    let mut tasks = [None; 8];
-    for k in 0..8 {
-        tasks[k as usize] = table.first_on(k, 0);
-    }
-    tasks
-}
-
-// Each core at the beginning of the frame.
-fn first_cores(table: &Table) -> Cores
-    ensures { result.rows ≡ map (λ k. rested (plan_of table.now) k 0) (range_with_len 0 8) }
-{
-    let mut rows = [Core::IDLE; 8];
-    for k in 0..8 {
-        rows[k as usize] = Core {
-            ended: 0,
-            step: untouched(table.first_on(k, 0)),
-        };
-    }
-    Cores { rows }
-}
 
 impl Progress {
     // The beginning of the table's frame.
@@ -53,8 +17,7 @@ impl Progress {
     {
         Progress {
             table: *table,
-            cores: first_cores(table),
-            nexts: first_tasks(table),
+            cores: Cores::first(table),
         }
     }
 
@@ -81,36 +44,38 @@ impl Progress {
         &self.table
     }
 
-    // How far the core has come; a core that the table lacks is over and has ended nothing.
-    pub fn core(&self, core: u32) -> Core
-        ensures { result ≡ slice_index_or (progress_at self.now) core idle }
+    // The core's row; a core that the table lacks is over and has ended nothing.
+    fn row(&self, core: u32) -> CoreRow
+        ensures core { result.core ≡ slice_index_or (progress_at self.now) core idle }
+        ensures next { result.next ≡ next_task (plan_at self.now) (progress_at self.now) core }
     {
         if core < u32::from(self.table.cores()) {
             self.cores.rows[core as usize]
         } else {
-            Core::IDLE
+            CoreRow::IDLE
         }
+    }
+
+    // How far the core has come; a core that the table lacks is over and has ended nothing.
+    pub fn core(&self, core: u32) -> Core
+        ensures { result ≡ slice_index_or (progress_at self.now) core idle }
+    {
+        self.row(core).core
     }
 
     // The core's next task, if one is left.
     pub fn next(&self, core: u32) -> Option<u16>
         ensures { result ≡ next_task (plan_at self.now) (progress_at self.now) core }
     {
-        if core < u32::from(self.table.cores()) {
-            self.nexts[core as usize]
-        } else {
-            None
-        }
+        self.row(core).next
     }
 
     // The core's task after its next one, if there is one.
     fn after_next(&self, core: u32) -> Option<u16>
         ensures { result ≡ named (nth_on core (suc (ended_on (progress_at self.now) core)) 0 (plan_at self.now).rows) }
     {
-        match self.next(core) {
-            Some(task) => self.table.first_on(core, task + 1),
-            None => None,
-        }
+        let task = self.next(core)?;
+        self.table.first_on(core, task + 1)
     }
 
     // Moves the core's next task to another step.
@@ -162,11 +127,9 @@ impl Progress {
         if !self.core(core).step.is_running() {
             return false;
         }
-        let next = self.after_next(core);
-        let rest = untouched(next);
+        let after = self.after_next(core);
         let row = &mut self.cores.rows[core as usize];
-        row.end_one(rest);
-        self.nexts[core as usize] = next;
+        row.end_one(after);
         true
     }
 }
