@@ -1,5 +1,5 @@
 -- What the questions of a board come down to, over a progress value.
-use Rattle.std.proofs.Common.{◌≡◌, ℕ, Bool, true, false, ◌&&◌, ltb, get_or, Some, None, sym, refl, ap, ◌∙◌, ⊎_elim, arith}
+use Rattle.std.proofs.Common.{◌≡◌, ℕ, Bool, true, false, ◌&&◌, ltb, get_or, Some, None, Option, MatchOption, sym, refl, ap, ◌∙◌, ⊎_elim, arith}
 use Rattle.std.proofs.lemmas.Bool.{cases_Bool, lt-ltb, and_parts, and_left, and_right, false≢true}
 use Rattle.table.proofs.Tables.{named_some, task_at}
 use Rattle.board.specs.Steps.{is_waiting, is_pending, is_over}
@@ -53,6 +53,20 @@ module _ (x : Progress) (k : ℕ) (g : Step → Bool) (f : Step → ℕ → Bool
   pub asked_none : ((s : Step) → is_over s ≡ true → g s ≡ false) → None ≡ next_task (plan_at x) (progress_at x) k →
       false ≡ (ltb k (plan_at x).cores && (g (step_of (progress_at x) k) && f (step_of (progress_at x) k) (next (plan_at x) (progress_at x) k)))
   asked_none over h = sym (and_right _ _ (and_left _ _ (over (step_of (progress_at x) k) (none_over x k h))))
+
+-- the question as code asks it of what may be the next task
+pub asked_with : (x : Progress) (k : ℕ) (g : Step → Bool) (f : Step → ℕ → Bool) → ((s : Step) → g s ≡ true → is_over s ≡ false) → ((s : Step) → is_over s ≡ true → g s ≡ false) → (c : Core) (o : Option ℕ) (b : Bool) →
+    c ≡ get_or (progress_at x) k idle → o ≡ next_task (plan_at x) (progress_at x) k → MatchOption o (b ≡ false) (λ t. b ≡ (g c.step && f c.step t)) →
+    b ≡ (ltb k (plan_at x).cores && (g (step_of (progress_at x) k) && f (step_of (progress_at x) k) (next (plan_at x) (progress_at x) k)))
+asked_with x k g f left over c None b e d h = h ∙ asked_none x k g f over d
+asked_with x k g f left over c (Some t) b e d h = ⊎_elim
+    (λ w. asked_from x k g f left c t b e d w (h ∙ ap (λ (z : Bool). z && f c.step t) w))
+    (λ w. let no : b ≡ false = h ∙ ap (λ (z : Bool). z && f c.step t) w in asked_not x k g f c b e (no ∙ sym w) no)
+    (cases_Bool (g c.step))
+
+pub match_some : (N : Type 0) (P Q : ℕ → Type 0) (o : Option ℕ) → ((t : ℕ) → P t → Q t) → MatchOption o N P → MatchOption o N Q
+match_some N P Q None f h = h
+match_some N P Q (Some t) f h = f t h
 
 -- a clear core has a pending next task, an easable one a waiting one
 pub clear_pending : (x : Progress) (k : ℕ) → clear (plan_at x) (progress_at x) k ≡ true → is_pending (step_of (progress_at x) k) ≡ true

@@ -1,2 +1,3 @@
-pub mod Asking
+pub mod Ranges
 pub mod Changes
+pub mod Asking

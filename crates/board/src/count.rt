@@ -102,18 +102,14 @@ impl Board for CountBoard {
 
     fn clear(&self, core: u32) -> bool {
         let step = self.progress.core(core).step;
-        match self.progress.next(core) {
-            Some(task) => step.is_pending() && self.all_free(step, task),
-            None => false,
-        }
+        let next = self.progress.next(core);
+        next.is_some_and(|task| step.is_pending() && self.all_free(step, task))
     }
 
     fn easable(&self, core: u32) -> bool {
         let step = self.progress.core(core).step;
-        match self.progress.next(core) {
-            Some(task) => step.is_waiting() && self.any_droppable(core, task),
-            None => false,
-        }
+        let next = self.progress.next(core);
+        next.is_some_and(|task| step.is_waiting() && self.any_droppable(core, task))
     }
 
     fn ease(&mut self, core: u32) -> bool {

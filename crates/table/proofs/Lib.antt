@@ -9,4 +9,3 @@ pub mod Scans
 pub mod Fills
 pub mod Tables
 pub mod Ordered
-pub mod Ranges
