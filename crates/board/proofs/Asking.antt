@@ -56,17 +56,13 @@ module _ (x : Progress) (k : ℕ) (g : Step → Bool) (f : Step → ℕ → Bool
 
 -- the question as code asks it of what may be the next task
 pub asked_with : (x : Progress) (k : ℕ) (g : Step → Bool) (f : Step → ℕ → Bool) → ((s : Step) → g s ≡ true → is_over s ≡ false) → ((s : Step) → is_over s ≡ true → g s ≡ false) → (c : Core) (o : Option ℕ) (b : Bool) →
-    c ≡ get_or (progress_at x) k idle → o ≡ next_task (plan_at x) (progress_at x) k → MatchOption o (b ≡ false) (λ t. b ≡ (g c.step && f c.step t)) →
+    c ≡ get_or (progress_at x) k idle → o ≡ next_task (plan_at x) (progress_at x) k → (P : ℕ → Type 0) → ((t : ℕ) → P t → b ≡ (g c.step && f c.step t)) → MatchOption o (b ≡ false) P →
     b ≡ (ltb k (plan_at x).cores && (g (step_of (progress_at x) k) && f (step_of (progress_at x) k) (next (plan_at x) (progress_at x) k)))
-asked_with x k g f left over c None b e d h = h ∙ asked_none x k g f over d
-asked_with x k g f left over c (Some t) b e d h = ⊎_elim
-    (λ w. asked_from x k g f left c t b e d w (h ∙ ap (λ (z : Bool). z && f c.step t) w))
-    (λ w. let no : b ≡ false = h ∙ ap (λ (z : Bool). z && f c.step t) w in asked_not x k g f c b e (no ∙ sym w) no)
+asked_with x k g f left over c None b e d P m h = h ∙ asked_none x k g f over d
+asked_with x k g f left over c (Some t) b e d P m h = ⊎_elim
+    (λ w. asked_from x k g f left c t b e d w (m t h ∙ ap (λ (z : Bool). z && f c.step t) w))
+    (λ w. let no : b ≡ false = m t h ∙ ap (λ (z : Bool). z && f c.step t) w in asked_not x k g f c b e (no ∙ sym w) no)
     (cases_Bool (g c.step))
-
-pub match_some : (N : Type 0) (P Q : ℕ → Type 0) (o : Option ℕ) → ((t : ℕ) → P t → Q t) → MatchOption o N P → MatchOption o N Q
-match_some N P Q None f h = h
-match_some N P Q (Some t) f h = f t h
 
 -- a clear core has a pending next task, an easable one a waiting one
 pub clear_pending : (x : Progress) (k : ℕ) → clear (plan_at x) (progress_at x) k ≡ true → is_pending (step_of (progress_at x) k) ≡ true

@@ -1,5 +1,5 @@
 -- What the cores of a progress value are as its rows say, and what a change of one row leaves of them.
-use Rattle.std.proofs.Common.{◌≡◌, ℕ, suc, ◌<◌, ◌≤◌, Bool, true, false, ltb, eqb, List, map, length, get_or, take, set, Some, None, Option, sym, refl, ap, subst, ◌∙◌, ⊎_elim, arith}
+use Rattle.std.proofs.Common.{◌≡◌, ℕ, suc, ◌<◌, ◌≤◌, Bool, true, false, ltb, List, map, get_or, take, set, Some, None, Option, sym, refl, ap, subst, ◌∙◌, ⊎_elim, arith}
 use mathlib.Core.List.{map-map}
 use Rattle.std.proofs.Math.ListN.{get_or-map}
 use Rattle.std.proofs.Math.Seq.{map-set_same}

@@ -8,7 +8,6 @@ use Rattle.std.proofs.lemmas.List.FromFn.{fill_by_all}
 use Rattle.std.specs.Array.{IsFromFnResult, IsFromFnResultFrom}
 use Rattle.std.specs.Fn.{Called}
 use Rattle.std.specs.List.{range_with_len, list_all, list_any}
-use Rattle.std.specs.declared.ops.Range.{Range}
 use Rattle.table.specs.Below.{all_below, any_below}
 
 -- a test of some number in a range, and the same from its other end

@@ -1,4 +1,4 @@
-ghost use Rattle.std.specs.Prelude.{◌≡◌, suc, false, [], slice_index_or};
+ghost use Rattle.std.specs.Prelude.{◌≡◌, suc, true, false, cond, [], slice_index_or};
 ghost use Rattle.table.specs.Rows.{named, nothing, nth_on};
 ghost use Rattle.table.specs.View.{plan_of};
 ghost use Rattle.board.specs.Steps.{is_over, is_pending, is_running, is_waiting};
@@ -78,15 +78,20 @@ impl Progress {
         self.table.first_on(core, task + 1)
     }
 
-    // Moves the core's next task to another step.
-    fn move_to(&mut self, core: u32, step: Step)
-        requires left { is_over (step_of (progress_at self.old) core) ≡ false }
+    // Moves the core's next task to another step if it may move, and says whether it did.
+    fn move_if(&mut self, may: bool, core: u32, step: Step) -> bool
+        requires left { may ≡ true → is_over (step_of (progress_at self.old) core) ≡ false }
         requires more { is_over step ≡ false }
+        ensures answer { result ≡ may }
         ensures plan { plan_at self.new ≡ plan_at self.old }
-        ensures progress { progress_at self.new ≡ stepped (progress_at self.old) core step }
+        ensures kept { result ≡ false → self.new ≡ self.old }
+        ensures progress { progress_at self.new ≡ cond may (stepped (progress_at self.old) core step) (progress_at self.old) }
     {
-        let row = &mut self.cores.rows[core as usize];
-        row.move_to(step);
+        if may {
+            let row = &mut self.cores.rows[core as usize];
+            row.move_to(step);
+        }
+        may
     }
 
     // Lets the core's next task loose, if it waits.
@@ -96,11 +101,8 @@ impl Progress {
         ensures kept { result ≡ false → self.new ≡ self.old }
         ensures progress { progress_at self.new ≡ loosened (progress_at self.old) core }
     {
-        if !self.core(core).step.is_waiting() {
-            return false;
-        }
-        self.move_to(core, Step::Loose);
-        true
+        let waits = self.core(core).step.is_waiting();
+        self.move_if(waits, core, Step::Loose)
     }
 
     // Starts the core's next task, if it waits or is loose.
@@ -110,11 +112,8 @@ impl Progress {
         ensures kept { result ≡ false → self.new ≡ self.old }
         ensures progress { progress_at self.new ≡ launched (progress_at self.old) core }
     {
-        if !self.core(core).step.is_pending() {
-            return false;
-        }
-        self.move_to(core, Step::Running);
-        true
+        let pending = self.core(core).step.is_pending();
+        self.move_if(pending, core, Step::Running)
     }
 
     // Ends the core's running task, if it runs one.

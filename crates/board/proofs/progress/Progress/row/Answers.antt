@@ -1,5 +1,4 @@
-use Rattle.std.proofs.Common.{sym, ap, arith}
-use Rattle.board.specs.declared.cores.Core.{Core}
+use Rattle.std.proofs.Common.{sym, arith}
 use Rattle.board.proofs.progress.Progress.row.Goals as goal
 use Rattle.board.proofs.Changes.{off_idle, row_read, next_known, next_off}
 
