@@ -1,4 +1,4 @@
--- What a progress value keeps of its cores: enough for the laws of a board over it.
+-- What a progress value keeps of its cores, as far as the laws of a board over it need it, and what a step that is not over is.
 use Rattle.std.specs.Prelude.{◌≡◌, ℕ, zero, suc, ◌<◌, ◌≤◌, true, false, List, [], ◌∷◌, length, take, Some, None, Option, ◌==◌, nat_le, slice_index_or, slice_set, refl}
 use Rattle.std.proofs.Common.{sym, ap, ◌∙◌, ⊎_elim, arith}
 use Rattle.std.proofs.lemmas.Bool.{cases_lt, ltb-true, eqb-true, leb-true, and_parts, cond-false, both_ways, false≢true}

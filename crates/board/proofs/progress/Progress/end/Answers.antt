@@ -8,11 +8,6 @@ use Rattle.board.specs.declared.cores.Core.{Core}
 use Rattle.board.proofs.progress.Progress.end.Goals as goal
 use Rattle.board.proofs.Changes.{runs_left, row_read, ends, ends_kept}
 
-pub bounds-self-core : goal.bounds-self-core
-bounds-self-core c =
-    let l = runs_left c.args.self.now c.args.core c.core.result c.is_running.result c.core.ensures c.is_running.ensures c.if-not-is_running.false in
-    omega (arith, l.there, few_cores c.args.self.now.table)
-
 pub end_one-requires : goal.end_one-requires
 end_one-requires c =
     let l = runs_left c.args.self.now c.args.core c.core.result c.is_running.result c.core.ensures c.is_running.ensures c.if-not-is_running.false in
