@@ -12,9 +12,7 @@ use Rattle.board.specs.declared.progress.Progress.{Progress}
 use Rattle.board.specs.Keeping.{left_at}
 
 and_last : (x y z : Bool) → x ≡ true → y ≡ true → (x && (y && z)) ≡ z
-and_last true true z a b = refl
-and_last true false z a b = absurd (false≢true b)
-and_last false y z a b = absurd (false≢true a)
+and_last x y z a b = rw (a, b)
 
 pub over_pending : (s : Step) → is_over s ≡ true → is_pending s ≡ false
 over_pending Waiting h = absurd (false≢true h)

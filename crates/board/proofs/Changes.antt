@@ -15,7 +15,7 @@ use Rattle.table.proofs.Tables.{task_at, no_task_at, off_table}
 use Rattle.board.specs.Steps.{is_running, is_over}
 use Rattle.board.specs.Meaning.{idle, ended_on, step_of, next_task, rest, rested, opened, stepped, ended_one}
 use Rattle.board.specs.Keeps.{cores_of, nexts_of, agrees, same_task, keeps_at, keeps}
-use Rattle.board.specs.Standing.{plan_at, progress_at, untouched, first_row}
+use Rattle.board.specs.Standing.{plan_at, progress_at, untouched, row_at_start}
 use Rattle.board.specs.Keeping.{take_set_in, Kept, keeps_parts, Left, left_at, running_left}
 use Rattle.board.specs.declared.cores.Core.{Core}
 use Rattle.board.specs.declared.cores.CoreRow.{CoreRow}
@@ -120,16 +120,16 @@ keeps_opened p few = keeps_from p (opened p) (map (λ k. named (nth_on k 0 0 p.r
       ∙ ap (λ (x : Core). named (nth_on k x.ended 0 p.rows)) (sym (get_or-map-range_with_len (λ k. rested p k 0) 0 p.cores k k idle l (omega arith)));
 })
 
-module _ (p : Plan) (rows : List CoreRow) (few : p.cores ≤ 8) (e : rows ≡ map (first_row p) (range_with_len 0 8)) where
+module _ (p : Plan) (rows : List CoreRow) (few : p.cores ≤ 8) (e : rows ≡ map (row_at_start p) (range_with_len 0 8)) where
   pub opened_front : take p.cores (cores_of rows) ≡ opened p
   opened_front =
       ap (λ (rs : List CoreRow). take p.cores (cores_of rs)) e
-      ∙ (ap (take p.cores) (map-map (λ (r : CoreRow). r.core) (first_row p) (range_with_len 0 8)) ∙ take-map-range_with_len (λ k. rested p k 0) 0 8 p.cores few)
+      ∙ (ap (take p.cores) (map-map (λ (r : CoreRow). r.core) (row_at_start p) (range_with_len 0 8)) ∙ take-map-range_with_len (λ k. rested p k 0) 0 8 p.cores few)
 
   pub opened_kept : keeps p (take p.cores (cores_of rows)) (nexts_of rows) ≡ true
   opened_kept =
       ap (λ (cs : List Core). keeps p cs (nexts_of rows)) opened_front
-      ∙ (ap (keeps p (opened p)) (ap nexts_of e ∙ map-map (λ (r : CoreRow). r.next) (first_row p) (range_with_len 0 8)) ∙ keeps_opened p few)
+      ∙ (ap (keeps p (opened p)) (ap nexts_of e ∙ map-map (λ (r : CoreRow). r.next) (row_at_start p) (range_with_len 0 8)) ∙ keeps_opened p few)
 
 -- a task of core k ends, and the one after it is at hand
 module _ (x : Progress) (k : ℕ) (after : Option ℕ) (r : CoreRow) (l : Left x k) (a : after ≡ named (nth_on k (suc (ended_on (progress_at x) k)) 0 (plan_at x).rows))

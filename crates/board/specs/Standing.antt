@@ -30,5 +30,5 @@ untouched (Some t) = Waiting
 untouched None = Over
 
 -- the row of core k at the beginning of the frame: its first task, if there is one, is its next, and has not been touched
-abbrev pub first_row : Plan → ℕ → CoreRow
-first_row p k = record { core = rested p k 0; next = named (nth_on k 0 0 p.rows) }
+abbrev pub row_at_start : Plan → ℕ → CoreRow
+row_at_start p k = record { core = rested p k 0; next = named (nth_on k 0 0 p.rows) }

@@ -2,7 +2,7 @@ ghost use Rattle.std.specs.Prelude.{◌≡◌, suc, ◌<◌, map};
 ghost use Rattle.std.specs.List.{range_with_len};
 ghost use Rattle.table.specs.View.{plan_of};
 ghost use Rattle.board.specs.Steps.{is_loose, is_over, is_pending, is_running, is_waiting};
-ghost use Rattle.board.specs.Standing.{first_row, untouched};
+ghost use Rattle.board.specs.Standing.{row_at_start, untouched};
 
 use std::array;
 use table::lawful::Table;
@@ -92,8 +92,8 @@ impl CoreRow {
     };
 
     // The core's row at the beginning of the table's frame.
-    fn first(table: &Table, core: u32) -> CoreRow
-        ensures { result ≡ first_row (plan_of table.now) core }
+    fn at_start(table: &Table, core: u32) -> CoreRow
+        ensures { result ≡ row_at_start (plan_of table.now) core }
     {
         let next = table.first_on(core, 0);
         let step = Step::untouched(next);
@@ -129,11 +129,11 @@ pub struct Cores {
 
 impl Cores {
     // The rows at the beginning of the table's frame.
-    pub(crate) fn first(table: &Table) -> Cores
-        ensures { result.rows ≡ map (first_row (plan_of table.now)) (range_with_len 0 8) }
+    pub(crate) fn at_start(table: &Table) -> Cores
+        ensures { result.rows ≡ map (row_at_start (plan_of table.now)) (range_with_len 0 8) }
     {
         Cores {
-            rows: array::from_fn(|k| CoreRow::first(table, k as u32)),
+            rows: array::from_fn(|k| CoreRow::at_start(table, k as u32)),
         }
     }
 }

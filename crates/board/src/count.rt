@@ -88,6 +88,7 @@ impl Board for CountBoard {
         self.progress.open(table);
     }
 
+    // The trait has no body for these three: a board need not stand on a progress value.
     fn table(&self) -> &Table {
         self.progress.table()
     }

@@ -28,7 +28,7 @@ impl Progress {
     {
         Progress {
             table: *table,
-            cores: Cores::first(table),
+            cores: Cores::at_start(table),
         }
     }
 

@@ -1,11 +1,10 @@
-use Rattle.std.proofs.Common.{refl}
 use Rattle.table.specs.View.{plan_of}
 use Rattle.table.proofs.Tables.{few_cores}
 use Rattle.board.proofs.progress.Progress.at_start.Goals as goal
 use Rattle.board.proofs.Changes.{opened_front, opened_kept}
 
 pub invariant_of-result : goal.invariant_of-result
-invariant_of-result c = record { ok = opened_kept (plan_of c.args.table.now) c.first.result.rows (few_cores c.args.table.now) c.first.ensures }
+invariant_of-result c = record { ok = opened_kept (plan_of c.args.table.now) c.at_start.result.rows (few_cores c.args.table.now) c.at_start.ensures }
 
-pub returns : goal.returns
-returns c = record { plan = refl; progress = opened_front (plan_of c.args.table.now) c.first.result.rows (few_cores c.args.table.now) c.first.ensures }
+pub returns-clause-progress : goal.returns-clause-progress
+returns-clause-progress c = opened_front (plan_of c.args.table.now) c.at_start.result.rows (few_cores c.args.table.now) c.at_start.ensures

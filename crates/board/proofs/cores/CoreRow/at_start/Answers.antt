@@ -3,7 +3,7 @@ use Rattle.table.specs.View.{plan_of}
 use Rattle.board.specs.Meaning.{rest}
 use Rattle.board.specs.Standing.{untouched}
 use Rattle.board.proofs.Changes.{untouched_rest}
-use Rattle.board.proofs.cores.CoreRow.first.Goals as goal
+use Rattle.board.proofs.cores.CoreRow.at_start.Goals as goal
 
 pub returns : goal.returns
 returns c =
