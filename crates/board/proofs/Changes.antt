@@ -63,19 +63,22 @@ keeps_step p cs ns k s h l m o =
     ∙ keeps_set p cs ns k c (get_or ns k None) h l (cond-false (is_over s) _ _ o ∙ lt-ltb _ _ m) ((keeps_parts p cs ns h).names k l)
 
 -- a row of one of the table's cores as the code reads it
-abbrev pub zeroed : CoreRow
-zeroed = record { core = record { ended = 0; step = Waiting }; next = None }
+abbrev pub zeroed : Core
+zeroed = record { ended = 0; step = Waiting }
 
-pub row_read : (x : Progress) (k : ℕ) → k < (plan_at x).cores → (get_or x.cores.rows k zeroed).core ≡ get_or (progress_at x) k idle
+abbrev pub zeroed_row : CoreRow
+zeroed_row = record { core = zeroed; next = None }
+
+pub row_read : (x : Progress) (k : ℕ) → k < (plan_at x).cores → (get_or x.cores.rows k zeroed_row).core ≡ get_or (progress_at x) k idle
 row_read x k l =
     let a = keeps_parts (plan_at x) (progress_at x) (nexts_of x.cores.rows) x.ok in
-    sym (get_or-map (λ (r : CoreRow). r.core) x.cores.rows k zeroed)
-    ∙ (get_or_default (cores_of x.cores.rows) k zeroed.core idle (omega (arith, l, a.many, length-take (plan_at x).cores (cores_of x.cores.rows)))
+    sym (get_or-map (λ (r : CoreRow). r.core) x.cores.rows k zeroed_row)
+    ∙ (get_or_default (cores_of x.cores.rows) k zeroed idle (omega (arith, l, a.many, length-take (plan_at x).cores (cores_of x.cores.rows)))
     ∙ sym (get_or-take (plan_at x).cores (cores_of x.cores.rows) k idle l))
 
 -- the next task is at hand; a core that the table lacks has none
-pub next_known : (x : Progress) (k : ℕ) → k < (plan_at x).cores → (get_or x.cores.rows k zeroed).next ≡ next_task (plan_at x) (progress_at x) k
-next_known x k l = sym (get_or-map (λ (r : CoreRow). r.next) x.cores.rows k zeroed) ∙ (keeps_parts (plan_at x) (progress_at x) (nexts_of x.cores.rows) x.ok).names k l
+pub next_known : (x : Progress) (k : ℕ) → k < (plan_at x).cores → (get_or x.cores.rows k zeroed_row).next ≡ next_task (plan_at x) (progress_at x) k
+next_known x k l = sym (get_or-map (λ (r : CoreRow). r.next) x.cores.rows k zeroed_row) ∙ (keeps_parts (plan_at x) (progress_at x) (nexts_of x.cores.rows) x.ok).names k l
 
 pub off_idle : (x : Progress) (k : ℕ) → (plan_at x).cores ≤ k → get_or (progress_at x) k idle ≡ idle
 off_idle x k l = get_or_past (progress_at x) k idle (omega (arith, l, (keeps_parts (plan_at x) (progress_at x) (nexts_of x.cores.rows) x.ok).many))
@@ -87,16 +90,26 @@ next_off x k l = ap (λ (c : Core). named (nth_on k c.ended 0 (plan_at x).rows))
 row_written : (x : Progress) (k : ℕ) (r : CoreRow) → take (plan_at x).cores (cores_of (set x.cores.rows k r)) ≡ set (progress_at x) k r.core
 row_written x k r = ap (take (plan_at x).cores) (map-set (λ (r : CoreRow). r.core) x.cores.rows k r) ∙ take_set_in (plan_at x).cores (cores_of x.cores.rows) k r.core
 
+pub row_moved : (x : Progress) (k : ℕ) (s : Step) (r : CoreRow) → k < (plan_at x).cores → r.core ≡ record { ended = (get_or x.cores.rows k zeroed_row).core.ended; step = s } →
+    take (plan_at x).cores (cores_of (set x.cores.rows k r)) ≡ stepped (progress_at x) k s
+row_moved x k s r l e = row_written x k r ∙ ap (set (progress_at x) k) (e ∙ ap (λ (c : Core). record { ended = c.ended; step = s }) (row_read x k l))
+
+pub row_ended : (x : Progress) (k : ℕ) (s : Step) (r : CoreRow) → k < (plan_at x).cores → s ≡ rest (plan_at x) k (suc (ended_on (progress_at x) k)) →
+    r.core ≡ record { ended = suc (get_or x.cores.rows k zeroed_row).core.ended; step = s } → take (plan_at x).cores (cores_of (set x.cores.rows k r)) ≡ ended_one (plan_at x) (progress_at x) k
+row_ended x k s r l q e =
+    row_written x k r
+    ∙ ap (set (progress_at x) k) (e ∙ (ap (λ (c : Core). record { ended = suc c.ended; step = s }) (row_read x k l) ∙ ap (λ (s : Step). record { ended = suc (ended_on (progress_at x) k); step = s }) q))
+
 -- a task of core k moves to another step
 module _ (x : Progress) (k : ℕ) (s : Step) (r : CoreRow) (l : Left x k)
-    (e : r ≡ record { core = record { ended = (get_or x.cores.rows k zeroed).core.ended; step = s }; next = (get_or x.cores.rows k zeroed).next }) where
-  pub row_moved : take (plan_at x).cores (cores_of (set x.cores.rows k r)) ≡ stepped (progress_at x) k s
-  row_moved = row_written x k r ∙ ap (set (progress_at x) k) (ap (λ (r : CoreRow). r.core) e ∙ ap (λ (c : Core). record { ended = c.ended; step = s }) (row_read x k l.there))
+    (e : r ≡ record { core = record { ended = (get_or x.cores.rows k zeroed_row).core.ended; step = s }; next = (get_or x.cores.rows k zeroed_row).next }) where
+  pub moves : take (plan_at x).cores (cores_of (set x.cores.rows k r)) ≡ stepped (progress_at x) k s
+  moves = row_moved x k s r l.there (ap (λ (r : CoreRow). r.core) e)
 
-  pub moved_kept : is_over s ≡ false → keeps (plan_at x) (take (plan_at x).cores (cores_of (set x.cores.rows k r))) (nexts_of (set x.cores.rows k r)) ≡ true
-  moved_kept o =
-      ap (λ (cs : List Core). keeps (plan_at x) cs (nexts_of (set x.cores.rows k r))) row_moved
-      ∙ (ap (λ (ns : List (Option ℕ)). keeps (plan_at x) (stepped (progress_at x) k s) ns) (map-set_same (λ (r : CoreRow). r.next) x.cores.rows k r zeroed (ap (λ (r : CoreRow). r.next) e))
+  pub moves_kept : is_over s ≡ false → keeps (plan_at x) (take (plan_at x).cores (cores_of (set x.cores.rows k r))) (nexts_of (set x.cores.rows k r)) ≡ true
+  moves_kept o =
+      ap (λ (cs : List Core). keeps (plan_at x) cs (nexts_of (set x.cores.rows k r))) moves
+      ∙ (ap (keeps (plan_at x) (stepped (progress_at x) k s)) (map-set_same (λ (r : CoreRow). r.next) x.cores.rows k r zeroed_row (ap (λ (r : CoreRow). r.next) e))
       ∙ keeps_step (plan_at x) (progress_at x) (nexts_of x.cores.rows) k s x.ok l.there l.left o)
 
 -- the step of an untouched task
@@ -120,27 +133,23 @@ keeps_opened p few = keeps_from p (opened p) (map (λ k. named (nth_on k 0 0 p.r
       ∙ ap (λ (x : Core). named (nth_on k x.ended 0 p.rows)) (sym (get_or-map-range_with_len (λ k. rested p k 0) 0 p.cores k k idle l (omega arith)));
 })
 
-module _ (p : Plan) (rows : List CoreRow) (few : p.cores ≤ 8) (e : rows ≡ map (row_at_start p) (range_with_len 0 8)) where
-  pub opened_front : take p.cores (cores_of rows) ≡ opened p
-  opened_front =
-      ap (λ (rs : List CoreRow). take p.cores (cores_of rs)) e
-      ∙ (ap (take p.cores) (map-map (λ (r : CoreRow). r.core) (row_at_start p) (range_with_len 0 8)) ∙ take-map-range_with_len (λ k. rested p k 0) 0 8 p.cores few)
+pub opened_front : (p : Plan) (cs : List Core) → p.cores ≤ 8 → cs ≡ map (λ k. rested p k 0) (range_with_len 0 8) → take p.cores cs ≡ opened p
+opened_front p cs few e = ap (take p.cores) e ∙ take-map-range_with_len (λ k. rested p k 0) 0 8 p.cores few
 
-  pub opened_kept : keeps p (take p.cores (cores_of rows)) (nexts_of rows) ≡ true
-  opened_kept =
-      ap (λ (cs : List Core). keeps p cs (nexts_of rows)) opened_front
+module _ (p : Plan) (rows : List CoreRow) (few : p.cores ≤ 8) (e : rows ≡ map (row_at_start p) (range_with_len 0 8)) where
+  pub opens : take p.cores (cores_of rows) ≡ opened p
+  opens = opened_front p (cores_of rows) few (ap cores_of e ∙ map-map (λ (r : CoreRow). r.core) (row_at_start p) (range_with_len 0 8))
+
+  pub opens_kept : keeps p (take p.cores (cores_of rows)) (nexts_of rows) ≡ true
+  opens_kept =
+      ap (λ (cs : List Core). keeps p cs (nexts_of rows)) opens
       ∙ (ap (keeps p (opened p)) (ap nexts_of e ∙ map-map (λ (r : CoreRow). r.next) (row_at_start p) (range_with_len 0 8)) ∙ keeps_opened p few)
 
 -- a task of core k ends, and the one after it is at hand
 module _ (x : Progress) (k : ℕ) (after : Option ℕ) (r : CoreRow) (l : Left x k) (a : after ≡ named (nth_on k (suc (ended_on (progress_at x) k)) 0 (plan_at x).rows))
-    (e : r ≡ record { core = record { ended = suc (get_or x.cores.rows k zeroed).core.ended; step = untouched after }; next = after }) where
+    (e : r ≡ record { core = record { ended = suc (get_or x.cores.rows k zeroed_row).core.ended; step = untouched after }; next = after }) where
   pub ends : take (plan_at x).cores (cores_of (set x.cores.rows k r)) ≡ ended_one (plan_at x) (progress_at x) k
-  ends =
-      let n = suc (ended_on (progress_at x) k) in
-      row_written x k r
-      ∙ ap (set (progress_at x) k) (ap (λ (r : CoreRow). r.core) e
-      ∙ (ap (λ (c : Core). record { ended = suc c.ended; step = untouched after }) (row_read x k l.there)
-      ∙ ap (λ (s : Step). record { ended = n; step = s }) (ap untouched a ∙ untouched_rest x.table k n)))
+  ends = row_ended x k (untouched after) r l.there (ap untouched a ∙ untouched_rest x.table k (suc (ended_on (progress_at x) k))) (ap (λ (r : CoreRow). r.core) e)
 
   pub ends_kept : keeps (plan_at x) (take (plan_at x).cores (cores_of (set x.cores.rows k r))) (nexts_of (set x.cores.rows k r)) ≡ true
   ends_kept =
