@@ -1,6 +1,6 @@
 -- What the questions of a board come down to, over a progress value.
-use Rattle.std.proofs.Common.{◌≡◌, ℕ, Bool, true, false, ◌&&◌, ltb, get_or, Some, None, sym, refl, ap, ◌∙◌, ⊎_elim, arith}
-use Rattle.std.proofs.lemmas.Bool.{cases_Bool, lt-ltb, and_parts, and_left, and_right, false≢true}
+use Rattle.std.proofs.Common.{◌≡◌, ℕ, Bool, true, false, ◌&&◌, ltb, get_or, Some, None, Option, MatchOption, sym, refl, ap, ◌∙◌, ⊎_elim, arith}
+use Rattle.std.proofs.lemmas.Bool.{cases_Bool, lt-ltb, and_parts, and_left, and_right, both_ways, false≢true}
 use Rattle.table.proofs.Tables.{named_some, task_at}
 use Rattle.board.specs.Steps.{is_waiting, is_pending, is_over}
 use Rattle.board.specs.Meaning.{idle, ended_on, step_of, next, next_task, clear, easable}
@@ -12,9 +12,7 @@ use Rattle.board.specs.declared.progress.Progress.{Progress}
 use Rattle.board.specs.Keeping.{left_at}
 
 and_last : (x y z : Bool) → x ≡ true → y ≡ true → (x && (y && z)) ≡ z
-and_last true true z a b = refl
-and_last true false z a b = absurd (false≢true b)
-and_last false y z a b = absurd (false≢true a)
+and_last x y z a b = rw (a, b)
 
 pub over_pending : (s : Step) → is_over s ≡ true → is_pending s ≡ false
 over_pending Waiting h = absurd (false≢true h)
@@ -53,6 +51,16 @@ module _ (x : Progress) (k : ℕ) (g : Step → Bool) (f : Step → ℕ → Bool
   pub asked_none : ((s : Step) → is_over s ≡ true → g s ≡ false) → None ≡ next_task (plan_at x) (progress_at x) k →
       false ≡ (ltb k (plan_at x).cores && (g (step_of (progress_at x) k) && f (step_of (progress_at x) k) (next (plan_at x) (progress_at x) k)))
   asked_none over h = sym (and_right _ _ (and_left _ _ (over (step_of (progress_at x) k) (none_over x k h))))
+
+-- the question as code asks it of what may be the next task
+pub asked_with : (x : Progress) (k : ℕ) (g : Step → Bool) (f : Step → ℕ → Bool) → ((s : Step) → g s ≡ true → is_over s ≡ false) → (c : Core) (o : Option ℕ) (b : Bool) →
+    c ≡ get_or (progress_at x) k idle → o ≡ next_task (plan_at x) (progress_at x) k → (P : ℕ → Type 0) → ((t : ℕ) → P t → b ≡ (g c.step && f c.step t)) → MatchOption o (b ≡ false) P →
+    b ≡ (ltb k (plan_at x).cores && (g (step_of (progress_at x) k) && f (step_of (progress_at x) k) (next (plan_at x) (progress_at x) k)))
+asked_with x k g f left c None b e d P m h = h ∙ asked_none x k g f (λ s o. ⊎_elim (λ y. absurd (both_ways (is_over s) (left s y) o)) (λ n. n) (cases_Bool (g s))) d
+asked_with x k g f left c (Some t) b e d P m h = ⊎_elim
+    (λ w. asked_from x k g f left c t b e d w (m t h ∙ ap (λ (z : Bool). z && f c.step t) w))
+    (λ w. let no : b ≡ false = m t h ∙ ap (λ (z : Bool). z && f c.step t) w in asked_not x k g f c b e (no ∙ sym w) no)
+    (cases_Bool (g c.step))
 
 -- a clear core has a pending next task, an easable one a waiting one
 pub clear_pending : (x : Progress) (k : ℕ) → clear (plan_at x) (progress_at x) k ≡ true → is_pending (step_of (progress_at x) k) ≡ true

@@ -1,1 +1,3 @@
+pub mod Ranges
+pub mod Changes
 pub mod Asking

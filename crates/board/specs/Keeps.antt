@@ -1,10 +1,18 @@
 -- The test that every progress value passes: each core's step agrees with its count, and its next task is at hand.
-use Rattle.std.specs.Prelude.{ℕ, Bool, true, false, cond, ◌&&◌, List, length, Some, None, Option, ◌==◌, nat_le, nat_lt, slice_index_or}
+use Rattle.std.specs.Prelude.{ℕ, Bool, true, false, cond, ◌&&◌, List, map, length, Some, None, Option, ◌==◌, nat_le, nat_lt, slice_index_or}
 use Rattle.table.specs.Rows.{Plan, tasks_on}
 use Rattle.board.specs.Steps.{is_over}
 use Rattle.table.specs.Below.{all_below}
 use Rattle.board.specs.Meaning.{idle, next_task}
 use Rattle.board.specs.declared.cores.Core.{Core}
+use Rattle.board.specs.declared.cores.CoreRow.{CoreRow}
+
+-- how far each core has come, and the next task of each, as their rows say
+abbrev pub cores_of : List CoreRow → List Core
+cores_of rows = map (λ r. r.core) rows
+
+abbrev pub nexts_of : List CoreRow → List (Option ℕ)
+nexts_of rows = map (λ r. r.next) rows
 
 -- a core with n tasks is over exactly when all have ended
 abbrev pub agrees : ℕ → Core → Bool

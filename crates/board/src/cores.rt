@@ -1,5 +1,11 @@
-ghost use Rattle.std.specs.Prelude.{◌≡◌, suc, ◌<◌};
+ghost use Rattle.std.specs.Prelude.{◌≡◌, suc, ◌<◌, map};
+ghost use Rattle.std.specs.List.{range_with_len};
+ghost use Rattle.table.specs.View.{plan_of};
 ghost use Rattle.board.specs.Steps.{is_loose, is_over, is_pending, is_running, is_waiting};
+ghost use Rattle.board.specs.Standing.{row_at_start, untouched};
+
+use std::array;
+use table::lawful::Table;
 
 // The step of a core's next task.
 #[derive(Clone, Copy, PartialEq, Eq, Debug)]
@@ -14,50 +20,45 @@ pub enum Step {
 }
 
 impl Step {
+    // The step of a core whose next task has not been touched.
+    fn untouched(next: Option<u16>) -> Step
+        ensures { result ≡ untouched next }
+    {
+        match next {
+            Some(_) => Step::Waiting,
+            None => Step::Over,
+        }
+    }
+
     pub fn is_waiting(self) -> bool
         ensures { result ≡ is_waiting self }
     {
-        match self {
-            Step::Waiting => true,
-            Step::Loose | Step::Running | Step::Over => false,
-        }
+        matches!(self, Step::Waiting)
     }
 
     pub fn is_loose(self) -> bool
         ensures { result ≡ is_loose self }
     {
-        match self {
-            Step::Loose => true,
-            Step::Waiting | Step::Running | Step::Over => false,
-        }
+        matches!(self, Step::Loose)
     }
 
     pub fn is_over(self) -> bool
         ensures { result ≡ is_over self }
     {
-        match self {
-            Step::Over => true,
-            Step::Waiting | Step::Loose | Step::Running => false,
-        }
+        matches!(self, Step::Over)
     }
 
     // The next task has not started.
     pub fn is_pending(self) -> bool
         ensures { result ≡ is_pending self }
     {
-        match self {
-            Step::Waiting | Step::Loose => true,
-            Step::Running | Step::Over => false,
-        }
+        matches!(self, Step::Waiting | Step::Loose)
     }
 
     pub fn is_running(self) -> bool
         ensures { result ≡ is_running self }
     {
-        match self {
-            Step::Running => true,
-            Step::Waiting | Step::Loose | Step::Over => false,
-        }
+        matches!(self, Step::Running)
     }
 }
 
@@ -74,26 +75,65 @@ impl Core {
         ended: 0,
         step: Step::Over,
     };
+}
+
+// A core's row: how far the core has come, and its next task.
+#[derive(Clone, Copy)]
+pub(crate) struct CoreRow {
+    pub(crate) core: Core,
+    pub(crate) next: Option<u16>,
+}
+
+impl CoreRow {
+    // The row of a core that has ended nothing and has no task left.
+    pub(crate) const IDLE: CoreRow = CoreRow {
+        core: Core::IDLE,
+        next: None,
+    };
+
+    // The core's row at the beginning of the table's frame.
+    fn at_start(table: &Table, core: u32) -> CoreRow
+        ensures { result ≡ row_at_start (plan_of table.now) core }
+    {
+        let next = table.first_on(core, 0);
+        let step = Step::untouched(next);
+        CoreRow {
+            core: Core { ended: 0, step },
+            next,
+        }
+    }
 
     // Moves the next task to another step.
     pub(crate) fn move_to(&mut self, step: Step)
-        ensures { self.new ≡ record { ended = self.old.ended; step = step } }
+        ensures { self.new ≡ record { core = record { ended = self.old.core.ended; step = step }; next = self.old.next } }
     {
-        self.step = step;
+        self.core.step = step;
     }
 
-    // Counts the next task as ended; the one after it is at this step.
-    pub(crate) fn end_one(&mut self, rest: Step)
-        requires { self.old.ended < 384 }
-        ensures { self.new ≡ record { ended = suc self.old.ended; step = rest } }
+    // Counts the next task as ended; the one after it has not been touched.
+    pub(crate) fn end_one(&mut self, after: Option<u16>)
+        requires { self.old.core.ended < 384 }
+        ensures { self.new ≡ record { core = record { ended = suc self.old.core.ended; step = untouched after }; next = after } }
     {
-        self.ended += 1;
-        self.step = rest;
+        self.core.ended += 1;
+        self.core.step = Step::untouched(after);
+        self.next = after;
     }
 }
 
 // A row for each core that a table can have.
 #[derive(Clone, Copy)]
 pub struct Cores {
-    pub(crate) rows: [Core; 8],
+    pub(crate) rows: [CoreRow; 8],
+}
+
+impl Cores {
+    // The rows at the beginning of the table's frame.
+    pub(crate) fn at_start(table: &Table) -> Cores
+        ensures { result.rows ≡ map (row_at_start (plan_of table.now)) (range_with_len 0 8) }
+    {
+        Cores {
+            rows: array::from_fn(|k| CoreRow::at_start(table, k as u32)),
+        }
+    }
 }

@@ -27,6 +27,13 @@ impl CountBoard {
         }
     }
 
+    // The number of the table's cores.
+    fn cores(&self) -> u32
+        ensures { result ≡ (plan_at self.now.progress).cores }
+    {
+        u32::from(self.progress.table().cores())
+    }
+
     // Has the core ended as many tasks as the task waits for on it?
     fn met(&self, task: u16, core: u32) -> bool
         ensures { result ≡ met (plan_at self.now.progress) (progress_at self.now.progress) task core }
@@ -48,12 +55,7 @@ impl CountBoard {
     fn all_free(&self, step: Step, task: u16) -> bool
         ensures { result ≡ all_below (plan_at self.now.progress).cores (free_of (plan_at self.now.progress) (progress_at self.now.progress) step task) }
     {
-        for j in 0..u32::from(self.progress.table().cores()) {
-            if !self.free_of(step, task, j) {
-                return false;
-            }
-        }
-        true
+        (0..self.cores()).all(|other| self.free_of(step, task, other))
     }
 
     // Has the core's task an unmet wait on the other core that easing would drop?
@@ -69,12 +71,7 @@ impl CountBoard {
     fn any_droppable(&self, core: u32, task: u16) -> bool
         ensures { result ≡ any_below (plan_at self.now.progress).cores (droppable (plan_at self.now.progress) (progress_at self.now.progress) core task) }
     {
-        for j in 0..u32::from(self.progress.table().cores()) {
-            if self.droppable(core, task, j) {
-                return true;
-            }
-        }
-        false
+        (0..self.cores()).any(|other| self.droppable(core, task, other))
     }
 }
 
@@ -91,6 +88,7 @@ impl Board for CountBoard {
         self.progress.open(table);
     }
 
+    // The trait has no body for these three: a board need not stand on a progress value.
     fn table(&self) -> &Table {
         self.progress.table()
     }
@@ -105,18 +103,14 @@ impl Board for CountBoard {
 
     fn clear(&self, core: u32) -> bool {
         let step = self.progress.core(core).step;
-        match self.progress.next(core) {
-            Some(task) => step.is_pending() && self.all_free(step, task),
-            None => false,
-        }
+        let next = self.progress.next(core);
+        next.is_some_and(|task| step.is_pending() && self.all_free(step, task))
     }
 
     fn easable(&self, core: u32) -> bool {
         let step = self.progress.core(core).step;
-        match self.progress.next(core) {
-            Some(task) => step.is_waiting() && self.any_droppable(core, task),
-            None => false,
-        }
+        let next = self.progress.next(core);
+        next.is_some_and(|task| step.is_waiting() && self.any_droppable(core, task))
     }
 
     fn ease(&mut self, core: u32) -> bool {

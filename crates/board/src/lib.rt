@@ -14,7 +14,6 @@ use table::lawful::Table;
 pub mod cores;
 pub mod count;
 pub mod progress;
-pub mod stepping;
 
 // A board remembers the notices between the cores of a table. Its meaning is the plan of that table and,
 // for each core, the number of ended tasks and the step of the next one. Any core may be named in a call.

@@ -1,8 +1,8 @@
 ghost use Rattle.std.specs.Prelude.{◌≡◌, true, take};
 ghost use Rattle.table.specs.View.{plan_of};
-ghost use Rattle.board.specs.Keeps.{keeps};
+ghost use Rattle.board.specs.Keeps.{cores_of, keeps, nexts_of};
 
-use crate::cores::Cores;
+use crate::cores::{Core, CoreRow, Cores, Step};
 use table::lawful::Table;
 
 // How far each core of a table has come, with the next task of each at hand.
@@ -10,6 +10,136 @@ use table::lawful::Table;
 pub struct Progress {
     pub(crate) table: Table,
     pub(crate) cores: Cores,
-    pub(crate) nexts: [Option<u16>; 8],
-    ghost ok: { keeps (plan_of table) (take (plan_of table).cores cores.rows) nexts ≡ true },
+    ghost ok: { keeps (plan_of table) (take (plan_of table).cores (cores_of cores.rows)) (nexts_of cores.rows) ≡ true },
+}
+
+impl Progress {
+    ghost use Rattle.std.specs.Prelude.{◌≡◌, suc, true, false, cond, [], slice_index_or};
+    ghost use Rattle.table.specs.Rows.{named, nothing, nth_on};
+    ghost use Rattle.table.specs.View.{plan_of};
+    ghost use Rattle.board.specs.Steps.{is_over, is_pending, is_running, is_waiting};
+    ghost use Rattle.board.specs.Meaning.{ended_on, finished, idle, next_task, opened, step_of, stepped};
+    ghost use Rattle.board.specs.Standing.{launched, loosened, plan_at, progress_at};
+
+    // The beginning of the table's frame.
+    fn at_start(table: &Table) -> Progress
+        ensures plan { plan_at result ≡ plan_of table.now }
+        ensures progress { progress_at result ≡ opened (plan_of table.now) }
+    {
+        Progress {
+            table: *table,
+            cores: Cores::at_start(table),
+        }
+    }
+
+    // The progress on an empty table.
+    pub fn new() -> Progress
+        ensures plan { plan_at result ≡ nothing }
+        ensures progress { progress_at result ≡ [] }
+    {
+        Progress::at_start(&Table::new())
+    }
+
+    // Forgets all, and stands at the beginning of this table's frame.
+    pub fn open(&mut self, table: &Table)
+        ensures plan { plan_at self.new ≡ plan_of table.now }
+        ensures progress { progress_at self.new ≡ opened (plan_of table.now) }
+    {
+        *self = Progress::at_start(table);
+    }
+
+    // The table that it was opened on.
+    pub fn table(&self) -> &Table
+        ensures { plan_of result.now ≡ plan_at self.now }
+    {
+        &self.table
+    }
+
+    // The core's row; a core that the table lacks is over and has ended nothing.
+    fn row(&self, core: u32) -> CoreRow
+        ensures core { result.core ≡ slice_index_or (progress_at self.now) core idle }
+        ensures next { result.next ≡ next_task (plan_at self.now) (progress_at self.now) core }
+    {
+        if core < u32::from(self.table.cores()) {
+            self.cores.rows[core as usize]
+        } else {
+            CoreRow::IDLE
+        }
+    }
+
+    // How far the core has come; a core that the table lacks is over and has ended nothing.
+    pub fn core(&self, core: u32) -> Core
+        ensures { result ≡ slice_index_or (progress_at self.now) core idle }
+    {
+        self.row(core).core
+    }
+
+    // The core's next task, if one is left.
+    pub fn next(&self, core: u32) -> Option<u16>
+        ensures { result ≡ next_task (plan_at self.now) (progress_at self.now) core }
+    {
+        self.row(core).next
+    }
+
+    // The core's task after its next one, if there is one.
+    fn after_next(&self, core: u32) -> Option<u16>
+        ensures { result ≡ named (nth_on core (suc (ended_on (progress_at self.now) core)) 0 (plan_at self.now).rows) }
+    {
+        let task = self.next(core)?;
+        self.table.first_on(core, task + 1)
+    }
+
+    // Moves the core's next task to another step if it may move, and says whether it did.
+    fn move_if(&mut self, may: bool, core: u32, step: Step) -> bool
+        requires left { may ≡ true → is_over (step_of (progress_at self.old) core) ≡ false }
+        requires more { is_over step ≡ false }
+        ensures answer { result ≡ may }
+        ensures plan { plan_at self.new ≡ plan_at self.old }
+        ensures kept { result ≡ false → self.new ≡ self.old }
+        ensures progress { progress_at self.new ≡ cond may (stepped (progress_at self.old) core step) (progress_at self.old) }
+    {
+        if may {
+            let row = &mut self.cores.rows[core as usize];
+            row.move_to(step);
+        }
+        may
+    }
+
+    // Lets the core's next task loose, if it waits.
+    pub fn loosen(&mut self, core: u32) -> bool
+        ensures answer { result ≡ is_waiting (step_of (progress_at self.old) core) }
+        ensures plan { plan_at self.new ≡ plan_at self.old }
+        ensures kept { result ≡ false → self.new ≡ self.old }
+        ensures progress { progress_at self.new ≡ loosened (progress_at self.old) core }
+    {
+        let waits = self.core(core).step.is_waiting();
+        self.move_if(waits, core, Step::Loose)
+    }
+
+    // Starts the core's next task, if it waits or is loose.
+    pub fn run(&mut self, core: u32) -> bool
+        ensures answer { result ≡ is_pending (step_of (progress_at self.old) core) }
+        ensures plan { plan_at self.new ≡ plan_at self.old }
+        ensures kept { result ≡ false → self.new ≡ self.old }
+        ensures progress { progress_at self.new ≡ launched (progress_at self.old) core }
+    {
+        let pending = self.core(core).step.is_pending();
+        self.move_if(pending, core, Step::Running)
+    }
+
+    // Ends the core's running task, if it runs one.
+    pub fn end(&mut self, core: u32) -> bool
+        ensures answer { result ≡ is_running (step_of (progress_at self.old) core) }
+        ensures plan { plan_at self.new ≡ plan_at self.old }
+        ensures kept { result ≡ false → self.new ≡ self.old }
+        ensures progress { progress_at self.new ≡ finished (plan_at self.old) (progress_at self.old) core }
+    {
+        if !self.core(core).step.is_running() {
+            return false;
+        }
+        let after = self.after_next(core);
+        let row = &mut self.cores.rows[core as usize];
+        row.end_one(after);
+        true
+    }
 }
