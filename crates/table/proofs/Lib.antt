@@ -9,3 +9,4 @@ pub mod Scans
 pub mod Fills
 pub mod Tables
 pub mod Ordered
+pub mod FromFn

@@ -1,8 +1,9 @@
 -- What the fact in a table says of its rows.
 use Rattle.std.proofs.Common.{◌≡◌, ℕ, zero, suc, ◌+◌, ◌^◌, ◌<◌, ◌≤◌, Bool, true, false, not, ◌&&◌, eqb, ltb, leb, ◌⊎◌, List, [], ◌∷◌, length, get_or, take, drop, is_some, Some, None, count_by, Option, sym, refl, ap, ◌∙◌, subst, inl, inr, ⊎_elim, arith}
-use Rattle.std.proofs.lemmas.Bool.{cases_Bool, cases_eq, cases_lt, ltb-true, leb-true, eqb-true, not-true, true≢false, and_parts, or_cases, cond-true, cond-false, eq-eqb, ne_eqb}
+use Rattle.std.proofs.lemmas.Bool.{cases_Bool, cases_eq, cases_lt, ltb-true, leb-true, eqb-true, eqb-false, not-true, true≢false, and_parts, or_cases, cond-true, cond-false, eq-eqb, ne_eqb}
 use Rattle.std.proofs.lemmas.List.{get_or-take, get_or_past, length-take-le, drop_more, drop_all}
 use Rattle.std.proofs.lemmas.List.Sums.{count_by_more_yes, count_by_more_no, count_by-le-length}
+use Rattle.std.specs.List.{range_with_len, slice_get, filter}
 use Rattle.table.specs.Rows.{Plan, nothing, blank, row, on, named, nth_on, tasks_on}
 use Rattle.table.specs.Lawful.{RowFits, Fits, EmptyOrLawful}
 use Rattle.table.specs.Questions.{rows_fault}
@@ -68,8 +69,8 @@ sound_parts cores tasks ticks rows h =
           (or_cases (is_nothing cores tasks ticks) (is_lawful (plan_from cores tasks ticks rows)) a.1);
     }
 
-parts : (t : Table) → Sound t.cores t.tasks t.ticks t.rows
-parts t = sound_parts t.cores t.tasks t.ticks t.rows t.ok
+parts : (t : Table) → Sound t.header.cores t.header.tasks t.header.ticks t.rows
+parts t = sound_parts t.header.cores t.header.tasks t.header.ticks t.rows t.ok
 
 -- every table value is empty or lawful
 pub table_sound : (t : Table) → EmptyOrLawful (plan_of t)
@@ -93,22 +94,22 @@ soon t n = of_plan t (λ (p : Plan). (row p n).start < 268435456) (omega arith) 
 pub core_below : (t : Table) (n : ℕ) → (row (plan_of t) n).core < 8
 core_below t n = of_plan t (λ (p : Plan). (row p n).core < 8) (omega arith) (λ f. of_row (plan_of t).rows (λ (r : Row). r.core < 8) (omega arith) (λ u l. (f.each u l).core) n)
 
-pub few_cores : (t : Table) → t.cores ≤ 8
+pub few_cores : (t : Table) → (plan_of t).cores ≤ 8
 few_cores t = of_plan t (λ (p : Plan). p.cores ≤ 8) (omega arith) (λ f. f.few_cores)
 
-pub few_ticks : (t : Table) → t.ticks < 268435456
+pub few_ticks : (t : Table) → (plan_of t).ticks < 268435456
 few_ticks t = of_plan t (λ (p : Plan). p.ticks < 268435456) (omega arith) (λ f. f.ticks)
 
 pub few_rows : (t : Table) → length (plan_of t).rows ≤ 384
 few_rows t = of_plan t (λ (p : Plan). length p.rows ≤ 384) (omega arith) (λ f. f.few_tasks)
 
-pub enough_rows : (t : Table) → t.tasks ≤ length t.rows
+pub enough_rows : (t : Table) → t.header.tasks ≤ length t.rows
 enough_rows t = (parts t).enough
 
-pub count_rows : (t : Table) → length (plan_of t).rows ≡ t.tasks
-count_rows t = length-take-le t.tasks t.rows (parts t).enough
+pub count_rows : (t : Table) → length (plan_of t).rows ≡ t.header.tasks
+count_rows t = length-take-le t.header.tasks t.rows (parts t).enough
 
-pub few_tasks : (t : Table) → t.tasks ≤ 384
+pub few_tasks : (t : Table) → t.header.tasks ≤ 384
 few_tasks t = omega (arith, few_rows t, count_rows t)
 
 pub few_on : (t : Table) (k : ℕ) → tasks_on (plan_of t).rows k ≤ 384
@@ -158,6 +159,28 @@ named_some n t h = ⊎_elim
     (λ e. let g : Some n ≡ Some t = sym (cond-false (eqb n 511) None (Some n) (ne_eqb n 511 e)) ∙ h in cc)
     (cases_eq n 511)
 
+-- the task at a place of core k is the one there among the numbers of the rows that lie on it: one row further left, and for all rows
+nth_step : (k n i : ℕ) (r : Row) (rs : List Row) (test : ℕ → Bool) → test i ≡ on k r → i < 511 → ((m : ℕ) → slice_get (filter test (range_with_len (i + 1) (length rs))) m ≡ named (nth_on k m (suc i) rs)) →
+    slice_get (filter test (range_with_len i (suc (length rs)))) n ≡ named (nth_on k n i (r ∷ rs))
+nth_step k n i r rs test here l next = ⊎_elim
+    (λ e. ap (λ xs. slice_get xs n) (cond-true (test i) _ _ (here ∙ e)) ∙ hit n e)
+    (λ e. ap (λ xs. slice_get xs n) (cond-false (test i) _ _ (here ∙ e)) ∙ (next n ∙ ap named (sym (place_miss k n i r rs (eqb-false _ _ e)))))
+    (cases_Bool (on k r))
+  where
+    hit : (m : ℕ) → on k r ≡ true → slice_get (i ∷ filter test (range_with_len (i + 1) (length rs))) m ≡ named (nth_on k m i (r ∷ rs))
+    hit zero e = sym (named_small i l) ∙ ap named (sym (place_hit k i r rs (eqb-true _ _ e)))
+    hit (suc m) e = next m ∙ ap named (sym (place_pass k m i r rs (eqb-true _ _ e)))
+
+pub nth_named : (k n i : ℕ) (rows : List Row) (test : ℕ → Bool) → ((a : ℕ) → a < length rows → test (i + a) ≡ on k (get_or rows a blank)) → ((a : ℕ) → a < length rows → i + a < 511) → slice_get (filter test (range_with_len i (length rows))) n ≡ named (nth_on k n i rows)
+nth_named k zero i [] test at l = refl
+nth_named k (suc n) i [] test at l = refl
+nth_named k n i (r ∷ rs) test at l =
+    let z : i ≡ i + 0 = omega arith in
+    let s : i + 1 ≡ suc i = omega arith in
+    let on_rest : (a : ℕ) → a < length rs → test (suc i + a) ≡ on k (get_or rs a blank) = λ a q. let t : suc i + a ≡ i + suc a = omega arith in ap test t ∙ at (suc a) (omega arith) in
+    nth_step k n i r rs test (ap test z ∙ at 0 (omega arith)) (omega (arith, l 0 (omega arith)))
+    (λ m. ap (λ j. slice_get (filter test (range_with_len j (length rs))) m) s ∙ nth_named k m (suc i) rs test on_rest (λ a q. omega (arith, l (suc a) (omega arith))))
+
 -- a place that is taken names a row
 pub nth_within : (k n : ℕ) (rows : List Row) → n < tasks_on rows k → nth_on k n 0 rows < length rows
 nth_within k n rows h = let f = nth_found k n 0 rows h in omega (arith, f.is, f.within)
@@ -170,7 +193,7 @@ pub no_task_at : (t : Table) (k n : ℕ) → tasks_on (plan_of t).rows k ≤ n �
 no_task_at t k n l = ap named (nth_none k n 0 (plan_of t).rows l)
 
 -- no task lies on a core that the table lacks
-pub off_table : (t : Table) (k : ℕ) → t.cores ≤ k → tasks_on (plan_of t).rows k ≡ 0
+pub off_table : (t : Table) (k : ℕ) → (plan_of t).cores ≤ k → tasks_on (plan_of t).rows k ≡ 0
 off_table t k l = none_on k (plan_of t).rows (⊎_elim
     (λ e. λ u m _. let n : length (plan_of t).rows ≡ 0 = ap (λ (p : Plan). length p.rows) e in omega (arith, m, n))
     (λ h. λ u m x. omega (arith, h.1.on_a_core u m, x, l))

@@ -63,7 +63,7 @@ unplaced p t h =
     ∙ cond-false _ _ _ (not_from_true _ (le-leb _ _ h.after)))
 
 -- what is kept for core k, one row on
-pub kept_push : (keep : ℕ → ℕ → ℕ) (k : ℕ) (rows : List Row) (x : Row) (sofar : ℕ) → kept_end keep k (rows ++ (x ∷ [])) sofar ≡ cond (on k x) (keep x.end (kept_end keep k rows sofar)) (kept_end keep k rows sofar)
+pub kept_push : {X : Type 0} (keep : ℕ → X → X) (k : ℕ) (rows : List Row) (x : Row) (sofar : X) → kept_end keep k (rows ++ (x ∷ [])) sofar ≡ cond (on k x) (keep x.end (kept_end keep k rows sofar)) (kept_end keep k rows sofar)
 kept_push keep k [] x sofar = refl
 kept_push keep k (r ∷ rs) x sofar = kept_push keep k rs x (cond (on k r) (keep r.end sofar) sofar)
 
