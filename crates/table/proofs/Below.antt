@@ -1,10 +1,7 @@
 -- Tests over all numbers below a bound.
 use Rattle.std.proofs.Common.{◌≡◌, ℕ, zero, suc, ◌+◌, ◌-◌, ◌<◌, ◌≤◌, Bool, true, false, cond, ◌&&◌, ◌||◌, Some, None, Option, refl, ap, ◌∙◌, subst, ⊎_elim, arith}
 use Rattle.std.proofs.lemmas.Bool.{cases_Bool, cases_lt, and_parts, and_from, or_left, or_right, or_from, both_ways}
-use Rattle.std.proofs.iter.Yields.{nat_range_steps}
-use Rattle.std.proofs.lemmas.Iterator.{YieldsList, YieldsList-from_range}
 use Rattle.std.specs.List.{range_with_len, list_any, list_all, find}
-use Rattle.std.specs.declared.ops.Range.{Range}
 use Rattle.table.specs.Below.{all_below, any_below, first_from}
 
 -- a test that holds of all numbers holds of each, and the other way round
@@ -109,10 +106,6 @@ any_of_range f (suc n) =
 pub first_of_range : (f : ℕ → Bool) (i n : ℕ) → find f (range_with_len i n) ≡ first_from f i n
 first_of_range f i zero = refl
 first_of_range f i (suc n) = let e : i + 1 ≡ suc i = omega arith in ap (λ o. cond (f i) (Some i) o) (first_of_range f (i + 1) n ∙ ap (λ j. first_from f j n) e)
-
--- the range of the numbers below n yields them in turn
-pub numbers_below : (n : ℕ) → YieldsList nat_range_steps (λ x. x) (record { start = 0; end = n }) (range_with_len 0 n)
-numbers_below n = YieldsList-from_range 0 n n refl (omega arith)
 
 -- what `all` answers over the numbers below n
 and_swap : (a b c : Bool) → (a && (b && c)) ≡ (b && (a && c))

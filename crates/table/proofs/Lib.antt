@@ -10,3 +10,4 @@ pub mod Fills
 pub mod Tables
 pub mod Ordered
 pub mod FromFn
+pub mod Ranges
