@@ -103,9 +103,6 @@ few_ticks t = of_plan t (λ (p : Plan). p.ticks < 268435456) (omega arith) (λ f
 pub few_rows : (t : Table) → length (plan_of t).rows ≤ 384
 few_rows t = of_plan t (λ (p : Plan). length p.rows ≤ 384) (omega arith) (λ f. f.few_tasks)
 
-pub enough_rows : (t : Table) → t.header.tasks ≤ length t.rows
-enough_rows t = (parts t).enough
-
 pub count_rows : (t : Table) → length (plan_of t).rows ≡ t.header.tasks
 count_rows t = length-take-le t.header.tasks t.rows (parts t).enough
 
@@ -125,29 +122,6 @@ place_pass k n i r rs e = cond-true (eqb r.core k) _ _ (eq-eqb _ _ e)
 place_miss : (k n i : ℕ) (r : Row) (rs : List Row) → (r.core ≡ k → ⊥) → nth_on k n i (r ∷ rs) ≡ nth_on k n (suc i) rs
 place_miss k zero i r rs e = cond-false (eqb r.core k) _ _ (ne_eqb _ _ e)
 place_miss k (suc n) i r rs e = cond-false (eqb r.core k) _ _ (ne_eqb _ _ e)
-
-module _ (k i tasks : ℕ) (all : List Row) (l : i < tasks) (m : tasks ≤ length all) where
-  within : i < length (take tasks all)
-  within = omega (arith, l, length-take-le tasks all m)
-
-  same : get_or (take tasks all) i blank ≡ get_or all i blank
-  same = get_or-take tasks all i blank l
-
-  pub found : (get_or all i blank).core ≡ k → nth_on k 0 i (drop i (take tasks all)) ≡ i
-  found e = ap (nth_on k 0 i) (drop_more (take tasks all) i blank within) ∙ place_hit k i (get_or (take tasks all) i blank) _ (ap (λ r. r.core) same ∙ e)
-
-  pub passes : (n : ℕ) → (get_or all i blank).core ≡ k → nth_on k (suc n) i (drop i (take tasks all)) ≡ nth_on k n (i + 1) (drop (i + 1) (take tasks all))
-  passes n e = ap (nth_on k (suc n) i) (drop_more (take tasks all) i blank within) ∙ (place_pass k n i (get_or (take tasks all) i blank) _ (ap (λ r. r.core) same ∙ e) ∙ ap (λ x. nth_on k n x (drop (i + 1) (take tasks all))) (omega arith))
-
-  pub misses : (n : ℕ) → ((get_or all i blank).core ≡ k → ⊥) → nth_on k n i (drop i (take tasks all)) ≡ nth_on k n (i + 1) (drop (i + 1) (take tasks all))
-  misses n e = ap (nth_on k n i) (drop_more (take tasks all) i blank within) ∙ (place_miss k n i (get_or (take tasks all) i blank) _ (λ x. e (ap (λ r. r.core) (sym same) ∙ x)) ∙ ap (λ x. nth_on k n x (drop (i + 1) (take tasks all))) (omega arith))
-
-pub no_more : (k n i : ℕ) (rows : List Row) → length rows ≤ i → nth_on k n i (drop i rows) ≡ 511
-no_more k n i rows h = ap (nth_on k n i) (drop_all i rows h) ∙ none n
-  where
-    none : (m : ℕ) → nth_on k m i [] ≡ 511
-    none zero = refl
-    none (suc m) = refl
 
 -- a number below 511 names a task, and none but that
 pub named_small : (t : ℕ) → t < 511 → named t ≡ Some t
@@ -198,14 +172,6 @@ off_table t k l = none_on k (plan_of t).rows (⊎_elim
     (λ e. λ u m _. let n : length (plan_of t).rows ≡ 0 = ap (λ (p : Plan). length p.rows) e in omega (arith, m, n))
     (λ h. λ u m x. omega (arith, h.1.on_a_core u m, x, l))
     (table_sound t))
-
--- a count of rows, one row on
-module _ (p : Row → Bool) (rows : List Row) (i j n : ℕ) (l : i < length rows) (e : j ≡ i) (s : n ≡ count_by p (take i rows)) where
-  pub count_yes : p (get_or rows j blank) ≡ true → n + 1 ≡ count_by p (take (i + 1) rows)
-  count_yes h = omega (arith, s, count_by_more_yes p rows i blank l (ap (λ k. p (get_or rows k blank)) (sym e) ∙ h))
-
-  pub count_no : p (get_or rows j blank) ≡ false → n ≡ count_by p (take (i + 1) rows)
-  count_no h = omega (arith, s, count_by_more_no p rows i blank l (ap (λ k. p (get_or rows k blank)) (sym e) ∙ h))
 
 -- the next place is the first after this one
 record Then (k n i : ℕ) (rows : List Row) : Type 0 where
