@@ -35,12 +35,9 @@ row_is bytes n t l = get_or-map-range_with_len (row_at bytes) 0 n t t blank l (o
 pub described_fits : (bytes : List ℕ) (t : ℕ) → t < length (described bytes).rows → RowFits (row (described bytes) t)
 described_fits bytes t l = subst RowFits (sym (row_is bytes (tasks_of bytes) t (omega (arith, rows_length bytes (tasks_of bytes))))) (row_at_fits bytes t)
 
-wrong : (f : Fault) (p : Plan) → Err f ≡ Ok p → ⊥
-wrong f p h = let z : ◌≡◌ {A = ℕ} 0 1 = cc in omega arith
-
 pub unless_ok : (o : Option Fault) (d p : Plan) → unless o d ≡ Ok p → (o ≡ None) × (d ≡ p)
 unless_ok None d p h = (refl, cc)
-unless_ok (Some f) d p h = absurd (wrong f p h)
+unless_ok (Some f) d p h = cc
 
 describes : (bytes : List ℕ) → get_or bytes 0 0 ≡ 87 → 1 ≤ tasks_of bytes → tasks_of bytes ≤ 384 → length bytes ≡ 6 + 11 * tasks_of bytes → Describes bytes (described bytes)
 describes bytes m s f l =

@@ -47,7 +47,7 @@ plan_widths p h =
 
 none_is : (o : Option Fault) → is_some o ≡ false → o ≡ None
 none_is None h = refl
-none_is (Some f) h = absurd (true≢false h)
+none_is (Some f) h = cc
 
 -- what the test of a table's fields says
 pub record Sound (cores tasks ticks : ℕ) (rows : List Row) : Type 0 where
@@ -129,7 +129,7 @@ named_small t l = cond-false (eqb t 511) None (Some t) (ne_eqb t 511 (omega arit
 
 pub named_some : (n t : ℕ) → named n ≡ Some t → n ≡ t
 named_some n t h = ⊎_elim
-    (λ e. let g : None ≡ Some t = sym (cond-true (eqb n 511) None (Some n) (eq-eqb n 511 e)) ∙ h in let z : ◌≡◌ {A = ℕ} 0 1 = cc in absurd (omega arith))
+    (λ e. let g : None ≡ Some t = sym (cond-true (eqb n 511) None (Some n) (eq-eqb n 511 e)) ∙ h in cc)
     (λ e. let g : Some n ≡ Some t = sym (cond-false (eqb n 511) None (Some n) (ne_eqb n 511 e)) ∙ h in cc)
     (cases_eq n 511)
 
@@ -208,7 +208,7 @@ after_nth k n rows h =
 -- the task after the one at a place
 pub taken_place : (t : Table) (k n u : ℕ) → named (nth_on k n 0 (plan_of t).rows) ≡ Some u → n < tasks_on (plan_of t).rows k
 taken_place t k n u h = ⊎_elim (λ l. l)
-    (λ l. let g : None ≡ Some u = sym (no_task_at t k n l) ∙ h in let z : ◌≡◌ {A = ℕ} 0 1 = cc in absurd (omega arith))
+    (λ l. let g : None ≡ Some u = sym (no_task_at t k n l) ∙ h in cc)
     (cases_lt n (tasks_on (plan_of t).rows k))
 
 pub after_task : (t : Table) (k n u : ℕ) → named (nth_on k n 0 (plan_of t).rows) ≡ Some u → nth_on k 0 (u + 1) (drop (u + 1) (plan_of t).rows) ≡ nth_on k (suc n) 0 (plan_of t).rows
@@ -219,7 +219,7 @@ after_task t k n u h =
 
 pub after_none : (t : Table) (k n : ℕ) → named (nth_on k n 0 (plan_of t).rows) ≡ None → named (nth_on k (suc n) 0 (plan_of t).rows) ≡ None
 after_none t k n h = ⊎_elim
-    (λ l. let g : Some (nth_on k n 0 (plan_of t).rows) ≡ None = sym (task_at t k n l) ∙ h in let z : ◌≡◌ {A = ℕ} 0 1 = cc in absurd (omega arith))
+    (λ l. let g : Some (nth_on k n 0 (plan_of t).rows) ≡ None = sym (task_at t k n l) ∙ h in cc)
     (λ l. no_task_at t k (suc n) (omega arith))
     (cases_lt n (tasks_on (plan_of t).rows k))
 
