@@ -2,6 +2,7 @@
 use Rattle.std.proofs.Common.{◌≡◌, ℕ, zero, suc, ◌+◌, ◌-◌, ◌<◌, ◌≤◌, Bool, true, false, cond, ◌&&◌, ◌||◌, Some, None, Option, refl, ap, ◌∙◌, subst, ⊎_elim, arith}
 use Rattle.std.proofs.lemmas.Bool.{cases_Bool, cases_lt, and_parts, and_from, or_left, or_right, or_from, both_ways}
 use Rattle.std.specs.List.{range_with_len, list_any, list_all, find}
+use Rattle.std.proofs.lemmas.Bool.Decides.{nat_tests}
 use Rattle.table.specs.Below.{all_below, any_below, first_from}
 
 -- a test that holds of all numbers holds of each, and the other way round
@@ -22,7 +23,7 @@ all_same (suc n) f g h = ap (λ b. b && all_below n f) (h n (omega arith)) ∙ a
 
 -- one number more, and a number at which the test fails
 pub all_more : (n : ℕ) (f : ℕ → Bool) → f n ≡ true → all_below n f ≡ true → all_below (n + 1) f ≡ true
-all_more n f a b = let e : suc n ≡ n + 1 = omega arith in subst (λ i. all_below i f ≡ true) e (and_from (f n) (all_below n f) a b)
+all_more n f a b = grind (arith, nat_tests)
 
 pub all_not : (n : ℕ) (f : ℕ → Bool) (j : ℕ) → j < n → f j ≡ false → all_below n f ≡ false
 all_not n f j l h = ⊎_elim (λ e. absurd (both_ways (f j) h (all_at n f e j l))) (λ e. e) (cases_Bool (all_below n f))
@@ -36,7 +37,7 @@ any_yes (suc n) f j l h = ⊎_elim
     (cases_lt j n)
 
 pub any_more : (n : ℕ) (f : ℕ → Bool) → f n ≡ false → any_below n f ≡ false → any_below (n + 1) f ≡ false
-any_more n f a b = let e : suc n ≡ n + 1 = omega arith in subst (λ i. any_below i f ≡ false) e (or_from (f n) (any_below n f) a b)
+any_more n f a b = grind (arith, nat_tests)
 
 -- a test that holds of no number holds of none of them, and the other way round
 pub any_at : (n : ℕ) (f : ℕ → Bool) → any_below n f ≡ false → (j : ℕ) → j < n → f j ≡ false

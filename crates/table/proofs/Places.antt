@@ -3,6 +3,7 @@ use Rattle.std.proofs.Common.{◌≡◌, ℕ, zero, suc, ◌+◌, ◌<◌, ◌�
 use Rattle.std.proofs.lemmas.List.Sums.{sum_by-cons, sum_by-take-le, count_by_more_yes}
 use Rattle.std.proofs.lemmas.List.{take-take}
 use Rattle.std.proofs.lemmas.Bool.{cases_Bool, cond-true, cond-false, eqb-true, eq-eqb, ne_eqb, leb-true, leb-false, le-leb, lt-leb, and_left, and_right, and_from}
+use Rattle.std.proofs.lemmas.Bool.Decides.{nat_tests}
 use Rattle.table.specs.Rows.{blank, on, ends_by, no_task, tasks_on, nth_on}
 use Rattle.table.specs.declared.rows.Row.{Row}
 
@@ -14,7 +15,7 @@ pub count_yes : {X : Type 0} (p : X → Bool) (x : X) (xs : List X) → p x ≡ 
 count_yes p x xs e = let a = sum_by-cons (λ y. cond (p y) 1 0) x xs in let b = cond-true {A = ℕ} (p x) 1 0 e in omega arith
 
 pub count_no : {X : Type 0} (p : X → Bool) (x : X) (xs : List X) → p x ≡ false → count_by p (x ∷ xs) ≡ count_by p xs
-count_no p x xs e = let a = sum_by-cons (λ y. cond (p y) 1 0) x xs in let b = cond-false {A = ℕ} (p x) 1 0 e in omega arith
+count_no p x xs e = grind (arith, nat_tests)
 
 -- what nth_on finds
 pub record Found (k n i : ℕ) (rows : List Row) : Type 0 where

@@ -35,12 +35,10 @@ module _ (ask : ℕ → Option Fault) (t n : ℕ) where
 
 -- a question that found a fault, and one that found none
 pub fault_of : (o : Option Fault) (f : Fault) → Err f ≡ ok_unless o → o ≡ Some f
-fault_of None f h = cc
-fault_of (Some g) f h = cc
+fault_of o f h = grind arith
 
 pub no_fault_of : (o : Option Fault) → Ok tt ≡ ok_unless o → o ≡ None
-no_fault_of None h = refl
-no_fault_of (Some f) h = cc
+no_fault_of o h = grind arith
 
 -- what is kept for each core, one row on
 pub kept_more : {X : Type 0} (keep : ℕ → X → X) (first : X) (bytes : List ℕ) (t : ℕ) (r : Row) → r ≡ row_at bytes t → (c : ℕ) → c ≡ r.core → (kept : List X) → length kept ≡ 8 → (v : X) → v ≡ keep r.end (get_or kept c first) →

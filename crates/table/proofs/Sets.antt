@@ -2,6 +2,7 @@
 use Rattle.std.proofs.Common.{◌≡◌, ℕ, zero, suc, ◌+◌, ◌-◌, ◌*◌, ◌^◌, ◌<◌, ◌≤◌, Bool, true, false, cond, not, ◌&&◌, ◌||◌, eqb, sym, refl, ap, ◌∙◌, ⊎_elim, arith}
 use Rattle.std.proofs.lemmas.Bool.{cases_Bool, cases_lt, eq-eqb, ne_eqb, cond-true, cond-false}
 use Rattle.std.proofs.lemmas.Nat.Bits.{bit_at-zero, bit_at_above, bit_at_cat_low, bit_at_cat_high}
+use Rattle.std.proofs.lemmas.Bool.Decides.{nat_tests}
 use Rattle.table.specs.Sets.{bit, has, bits_of, set_of, none, with, without, less}
 use Rattle.table.specs.declared.rows.CoreSet.{CoreSet}
 
@@ -40,7 +41,7 @@ unfolding set_of
 set_past f j l = ap (λ x. eqb x 1) (bit_at_above (bits_of 8 f) 8 j (bits_below 8 f) l)
 
 pub has_none : (k : ℕ) → has none k ≡ false
-has_none k = ap (λ x. eqb x 1) (bit_at-zero k)
+has_none k = grind (arith, nat_tests)
 
 -- a core more, a core less, a set less
 pub with_same : (s : CoreSet) (k : ℕ) → k < 8 → has (with s k) k ≡ true

@@ -4,6 +4,7 @@ use Rattle.std.proofs.lemmas.Bool.{cases_Bool, cases_eq, cases_lt, ltb-true, leb
 use Rattle.std.proofs.lemmas.List.{get_or-take, get_or_past, length-take-le, drop_more, drop_all}
 use Rattle.std.proofs.lemmas.List.Sums.{count_by_more_yes, count_by_more_no, count_by-le-length}
 use Rattle.std.specs.List.{range_with_len, slice_get, filter}
+use Rattle.std.proofs.lemmas.Bool.Decides.{nat_tests}
 use Rattle.table.specs.Rows.{Plan, nothing, blank, row, on, named, nth_on, tasks_on}
 use Rattle.table.specs.Lawful.{RowFits, Fits, EmptyOrLawful}
 use Rattle.table.specs.Questions.{rows_fault}
@@ -17,12 +18,7 @@ use Rattle.table.proofs.Verdict.{lawful_from}
 
 -- the widths of one row, of all rows, of a plan
 row_widths : (r : Row) → row_fits r ≡ true → RowFits r
-row_widths r h =
-    let a = and_parts (ltb r.core (2 ^ 3)) _ h in
-    let b = and_parts (ltb r.start (2 ^ 28)) _ a.1 in
-    let c = and_parts (ltb r.end (2 ^ 28)) _ b.1 in
-    let d = and_parts (ltb r.claim (2 ^ 21)) (ltb r.inputs.bits (2 ^ 8)) c.1 in
-    record { core = ltb-true _ _ a.0; start = ltb-true _ _ b.0; end = ltb-true _ _ c.0; claim = ltb-true _ _ d.0; inputs = ltb-true _ _ d.1 }
+row_widths r h = grind (arith, nat_tests)
 
 rows_widths : (rows : List Row) → rows_fit rows ≡ true → (t : ℕ) → t < length rows → RowFits (get_or rows t blank)
 rows_widths [] h t l = absurd (omega arith)
@@ -31,23 +27,18 @@ rows_widths (r ∷ rs) h (suc t) l = rows_widths rs (and_parts (row_fits r) (row
 
 pub plan_widths : (p : Plan) → plan_fits p ≡ true → Fits p
 plan_widths p h =
-    let a = and_parts (leb 1 p.cores) _ h in
-    let b = and_parts (leb p.cores 8) _ a.1 in
-    let c = and_parts (leb 1 (length p.rows)) _ b.1 in
-    let d = and_parts (leb (length p.rows) 384) _ c.1 in
-    let e = and_parts (ltb p.ticks (2 ^ 28)) (rows_fit p.rows) d.1 in
+    let rows : rows_fit p.rows ≡ true = grind (arith, nat_tests) in
     record {
-      some_core = leb-true _ _ a.0;
-      few_cores = leb-true _ _ b.0;
-      some_task = leb-true _ _ c.0;
-      few_tasks = leb-true _ _ d.0;
-      ticks = ltb-true _ _ e.0;
-      each = rows_widths p.rows e.1;
+      some_core = grind (arith, nat_tests);
+      few_cores = grind (arith, nat_tests);
+      some_task = grind (arith, nat_tests);
+      few_tasks = grind (arith, nat_tests);
+      ticks = grind (arith, nat_tests);
+      each = rows_widths p.rows rows;
     }
 
 none_is : (o : Option Fault) → is_some o ≡ false → o ≡ None
-none_is None h = refl
-none_is (Some f) h = cc
+none_is o h = grind arith
 
 -- what the test of a table's fields says
 pub record Sound (cores tasks ticks : ℕ) (rows : List Row) : Type 0 where
@@ -114,10 +105,10 @@ few_on t k = omega (arith, few_rows t, count_by-le-length (on k) (plan_of t).row
 
 -- the search for a place, one row on
 place_hit : (k i : ℕ) (r : Row) (rs : List Row) → r.core ≡ k → nth_on k 0 i (r ∷ rs) ≡ i
-place_hit k i r rs e = cond-true (eqb r.core k) _ _ (eq-eqb _ _ e)
+place_hit k i r rs e = grind (arith, nat_tests)
 
 place_pass : (k n i : ℕ) (r : Row) (rs : List Row) → r.core ≡ k → nth_on k (suc n) i (r ∷ rs) ≡ nth_on k n (suc i) rs
-place_pass k n i r rs e = cond-true (eqb r.core k) _ _ (eq-eqb _ _ e)
+place_pass k n i r rs e = grind (arith, nat_tests)
 
 place_miss : (k n i : ℕ) (r : Row) (rs : List Row) → (r.core ≡ k → ⊥) → nth_on k n i (r ∷ rs) ≡ nth_on k n (suc i) rs
 place_miss k zero i r rs e = cond-false (eqb r.core k) _ _ (ne_eqb _ _ e)
@@ -125,25 +116,15 @@ place_miss k (suc n) i r rs e = cond-false (eqb r.core k) _ _ (ne_eqb _ _ e)
 
 -- a number below 511 names a task, and none but that
 pub named_small : (t : ℕ) → t < 511 → named t ≡ Some t
-named_small t l = cond-false (eqb t 511) None (Some t) (ne_eqb t 511 (omega arith))
+named_small t l = grind (arith, nat_tests)
 
 pub named_some : (n t : ℕ) → named n ≡ Some t → n ≡ t
-named_some n t h = ⊎_elim
-    (λ e. let g : None ≡ Some t = sym (cond-true (eqb n 511) None (Some n) (eq-eqb n 511 e)) ∙ h in cc)
-    (λ e. let g : Some n ≡ Some t = sym (cond-false (eqb n 511) None (Some n) (ne_eqb n 511 e)) ∙ h in cc)
-    (cases_eq n 511)
+named_some n t h = grind (arith, nat_tests)
 
 -- the task at a place of core k is the one there among the numbers of the rows that lie on it: one row further left, and for all rows
 nth_step : (k n i : ℕ) (r : Row) (rs : List Row) (test : ℕ → Bool) → test i ≡ on k r → i < 511 → ((m : ℕ) → slice_get (filter test (range_with_len (i + 1) (length rs))) m ≡ named (nth_on k m (suc i) rs)) →
     slice_get (filter test (range_with_len i (suc (length rs)))) n ≡ named (nth_on k n i (r ∷ rs))
-nth_step k n i r rs test here l next = ⊎_elim
-    (λ e. ap (λ xs. slice_get xs n) (cond-true (test i) _ _ (here ∙ e)) ∙ hit n e)
-    (λ e. ap (λ xs. slice_get xs n) (cond-false (test i) _ _ (here ∙ e)) ∙ (next n ∙ ap named (sym (place_miss k n i r rs (eqb-false _ _ e)))))
-    (cases_Bool (on k r))
-  where
-    hit : (m : ℕ) → on k r ≡ true → slice_get (i ∷ filter test (range_with_len (i + 1) (length rs))) m ≡ named (nth_on k m i (r ∷ rs))
-    hit zero e = sym (named_small i l) ∙ ap named (sym (place_hit k i r rs (eqb-true _ _ e)))
-    hit (suc m) e = next m ∙ ap named (sym (place_pass k m i r rs (eqb-true _ _ e)))
+nth_step k n i r rs test here l next = grind (arith, nat_tests)
 
 pub nth_named : (k n i : ℕ) (rows : List Row) (test : ℕ → Bool) → ((a : ℕ) → a < length rows → test (i + a) ≡ on k (get_or rows a blank)) → ((a : ℕ) → a < length rows → i + a < 511) → slice_get (filter test (range_with_len i (length rows))) n ≡ named (nth_on k n i rows)
 nth_named k zero i [] test at l = refl

@@ -3,6 +3,7 @@ use Rattle.std.proofs.Common.{◌≡◌, ℕ, zero, suc, ◌+◌, ◌/◌, ◌%�
 use native.Mathlib.Nat.{div-eq_of_lt}
 use Rattle.std.proofs.lemmas.List.{get_or-take, length-take-le, take_more}
 use Rattle.std.proofs.lemmas.Bool.{cases_Bool, cases_lt, cases_eq, eqb-true, eqb-false, eq-eqb, ne_eqb, ltb-true, lt-ltb, leb-true, le-leb, not-true, not-false, not_from_true, not_from_false, and_parts, and_from, or_cases, or_left, or_right, cond-true, cond-false, both_ways}
+use Rattle.std.proofs.lemmas.Bool.Decides.{nat_tests}
 use Rattle.table.specs.Below.{all_below}
 use Rattle.table.specs.Sets.{has}
 use Rattle.table.specs.Rows.{Plan, row, blank, on, ends_by, kept_end, last_end}
@@ -15,16 +16,13 @@ use Rattle.table.proofs.Below.{all_at, all_from}
 
 -- a question that finds no fault
 pub passed : (b : Bool) (f : Fault) (o : Option Fault) → cond b (Some f) o ≡ None → (b ≡ false) × (o ≡ None)
-passed true f o h = cc
-passed false f o h = (refl, h)
+passed b f o h = grind arith
 
 pub neither : (a b : Option Fault) → or_else a b ≡ None → (a ≡ None) × (b ≡ None)
-neither (Some f) b h = cc
-neither None b h = (refl, h)
+neither a b h = grind arith
 
 pub none_else : (a b : Option Fault) → a ≡ None → or_else a b ≡ b
-none_else (Some f) b h = cc
-none_else None b h = refl
+none_else a b h = grind arith
 
 -- a question that finds no fault finds none at any row, and the other way round
 no_fault_at : (ask : ℕ → Option Fault) (t n : ℕ) → first_fault ask t n ≡ None → (i : ℕ) → t ≤ i → i < t + n → ask i ≡ None
@@ -45,19 +43,10 @@ record Placed (p : Plan) (t : ℕ) : Type 0 where
   after : last_end (row p t).core (take t p.rows) ≤ (row p t).start
 
 placed : (p : Plan) (t : ℕ) → place_fault p t ≡ None → Placed p t
-placed p t h =
-    let r = row p t in
-    let a = passed (not (ltb r.core p.cores)) _ _ h in
-    let b = passed (not (ltb r.start r.end && leb r.end p.ticks)) _ _ a.1 in
-    let c = passed (not (leb (last_end r.core (take t p.rows)) r.start)) _ _ b.1 in
-    let d = and_parts (ltb r.start r.end) (leb r.end p.ticks) (not-false _ b.0) in
-    record { core = ltb-true _ _ (not-false _ a.0); forward = ltb-true _ _ d.0; in_frame = leb-true _ _ d.1; after = leb-true _ _ (not-false _ c.0) }
+placed p t h = record { core = grind (arith, nat_tests); forward = grind (arith, nat_tests); in_frame = grind (arith, nat_tests); after = grind (arith, nat_tests) }
 
 unplaced : (p : Plan) (t : ℕ) → Placed p t → place_fault p t ≡ None
-unplaced p t h =
-    cond-false _ _ _ (not_from_true _ (lt-ltb _ _ h.core))
-    ∙ (cond-false _ _ _ (not_from_true _ (and_from _ _ (lt-ltb _ _ h.forward) (le-leb _ _ h.in_frame)))
-    ∙ cond-false _ _ _ (not_from_true _ (le-leb _ _ h.after)))
+unplaced p t h = grind (arith, nat_tests)
 
 -- what is kept for core k, one row on
 pub kept_push : {X : Type 0} (keep : ℕ → X → X) (k : ℕ) (rows : List Row) (x : Row) (sofar : X) → kept_end keep k (rows ++ (x ∷ [])) sofar ≡ cond (on k x) (keep x.end (kept_end keep k rows sofar)) (kept_end keep k rows sofar)
