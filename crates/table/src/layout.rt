@@ -27,7 +27,7 @@ pub(crate) fn read_header(bytes: &[u8]) -> Result<Header, Fault>
         return Err(Fault::NotATable);
     }
     let tasks = read_field(bytes, 11, 9) as u16;
-    if tasks < 1 || tasks > 384 {
+    if !(1..=384).contains(&tasks) {
         return Err(Fault::TaskCount);
     }
     if bytes.len() != 6 + 11 * usize::from(tasks) {
