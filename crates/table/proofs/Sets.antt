@@ -43,6 +43,10 @@ set_past f j l = ap (λ x. eqb x 1) (bit_at_above (bits_of 8 f) 8 j (bits_below 
 pub has_none : (k : ℕ) → has none k ≡ false
 has_none k = grind (arith, nat_tests)
 
+-- a core that is past 8 is in no set
+pub has_past : (s : CoreSet) (k : ℕ) → s.bits < 2 ^ 8 → 8 ≤ k → has s k ≡ false
+has_past s k l h = ap (λ x. eqb x 1) (bit_at_above s.bits 8 k l h)
+
 -- a core more, a core less, a set less
 pub with_same : (s : CoreSet) (k : ℕ) → k < 8 → has (with s k) k ≡ true
 with_same s k l = set_at (λ j. eqb j k || has s j) k l ∙ ap (λ b. b || has s k) (eq-eqb k k refl)

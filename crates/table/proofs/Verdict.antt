@@ -13,6 +13,7 @@ use Rattle.table.specs.declared.rows.CoreSet.{CoreSet}
 use Rattle.table.specs.declared.rows.Row.{Row}
 use Rattle.table.specs.declared.faults.Fault.{Fault}
 use Rattle.table.proofs.Below.{all_at, all_from}
+use Rattle.table.proofs.Sets.{has_past}
 
 -- a question that finds no fault
 pub passed : (b : Bool) (f : Fault) (o : Option Fault) → cond b (Some f) o ≡ None → (b ≡ false) × (o ≡ None)
@@ -89,13 +90,7 @@ module _ (p : Plan) (places : (t : ℕ) → t < length p.rows → Placed p t) wh
 
 -- a member of a set of cores is below 8
 pub has_below : (s : CoreSet) (k : ℕ) → s.bits < 2 ^ 8 → has s k ≡ true → k < 8
-has_below s k l h = ⊎_elim (λ q. q)
-    (λ q. let big : 2 ^ 8 ≤ 2 ^ k = pow_mono q in
-    let small : s.bits < 2 ^ k = omega arith in
-    let z : s.bits / 2 ^ k ≡ 0 = div-eq_of_lt small in
-    let o : s.bits / 2 ^ k % 2 ≡ 1 = eqb-true _ _ h in
-    absurd (omega (arith, z, o)))
-    (cases_lt k 8)
+has_below s k l h = ⊎_elim (λ q. q) (λ q. absurd (both_ways (has s k) (has_past s k l q) h)) (cases_lt k 8)
 
 found_by : (k time : ℕ) (p : Plan) (i : ℕ) (rows : List Row) → ((a : ℕ) → a < length rows → (i + a < length p.rows) × (row p (i + a) ≡ get_or rows a blank)) → some_ends_by k time rows ≡ true → EndsBy p k time
 found_by k time p i [] at h = absurd (both_ways false refl h)

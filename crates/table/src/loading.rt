@@ -33,6 +33,7 @@ fn read_table(bytes: &[u8]) -> Result<Table, Fault>
 
 impl Table {
     // An empty table: no core, no task.
+    #[tactic(auto, unfolding(crate::specs::Sound::sound))]
     pub fn new() -> Table
         ensures { plan_of result ≡ nothing }
     {

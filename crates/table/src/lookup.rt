@@ -6,7 +6,7 @@ ghost use Rattle.table.specs.View.{plan_of};
 use crate::lawful::Table;
 use crate::rows::Row;
 
-// How many of the rows lie on the core and end by the time.
+// How many of the rows lie on the core and end by the time: a loop over the rows, a form that the project asks for.
 fn count_ended_by(rows: &[Row], core: u32, time: u32) -> u16
     requires { length rows.now ≤ 384 }
     ensures is { result ≡ count_by (ends_by core time) rows.now }

@@ -45,6 +45,7 @@ impl Header {
     }
 }
 
+// A row is read from bits by its number, and a fault tells it: these loops go over numbers, since there is no slice to walk.
 impl Form<'_> {
     // Questions 4 to 6 of each row in turn.
     fn check_places(&self) -> Result<(), Fault>
@@ -89,7 +90,7 @@ impl Form<'_> {
 }
 
 // Asks every question of the bytes.
-pub(crate) fn checked(bytes: &[u8]) -> Result<Form, Fault>
+pub(crate) fn checked(bytes: &[u8]) -> Result<Form<'_>, Fault>
     ensures { Checked bytes.now result }
 {
     let header = read_header(bytes)?;

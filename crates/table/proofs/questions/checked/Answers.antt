@@ -7,12 +7,6 @@ use Rattle.table.proofs.Fills.{loaded_whole, loaded_fault, answer_whole}
 use Rattle.table.proofs.Scans.{all_asked, fault_of, no_fault_of}
 use Rattle.table.proofs.questions.checked.Goals as goal
 
-pub returns-in_err-header : goal.returns-in_err-header
-returns-in_err-header c =
-    let bytes = c.args.bytes.now in
-    let p = err_from_is_err_and c.from_residual.result c.from_residual.ensures.1 in
-    rw (p.1, p.2) (loaded_fault bytes c.in_err-header.field-0.0 (ap (λ o. or_else o (rows_fault (described bytes))) c.in_err-header.ensures))
-
 pub returns-in_err-check_places : goal.returns-in_err-check_places
 returns-in_err-check_places c =
     let bytes = c.args.bytes.now in
