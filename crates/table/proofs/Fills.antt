@@ -5,7 +5,7 @@ use Rattle.std.proofs.lemmas.Bool.{lt-ltb, le-leb, and_from, or_right}
 use Rattle.std.proofs.lemmas.Bool.Decides.{nat_tests}
 use Rattle.table.specs.Rows.{blank}
 use Rattle.table.specs.Layout.{cores_of, tasks_of, ticks_of, rows_of, described}
-use Rattle.table.specs.Questions.{header_fault, rows_fault, or_else, unless, loaded, answered}
+use Rattle.table.specs.Questions.{header_fault, rows_fault, or_else, loaded, answered}
 use Rattle.table.specs.Lawful.{RowFits}
 use Rattle.table.specs.Reading.{Heads}
 use Rattle.table.specs.Sound.{row_fits, rows_fit, plan_fits, is_lawful, is_nothing, plan_from, sound}

@@ -1,5 +1,5 @@
 -- The masks of the code are the set operations.
-use Rattle.std.proofs.Common.{◌≡◌, ℕ, ◌-◌, ◌*◌, ◌%◌, ◌^◌, ◌<◌, ◌≤◌, Bool, true, false, not, ◌&&◌, ◌||◌, eqb, min, w8, sym, refl, ap, ◌∙◌, ⊎_elim, arith}
+use Rattle.std.proofs.Common.{◌≡◌, ℕ, ◌-◌, ◌*◌, ◌%◌, ◌^◌, ◌<◌, ◌≤◌, Bool, true, not, ◌&&◌, ◌||◌, eqb, min, w8, sym, ap, ◌∙◌, ⊎_elim, arith}
 use lib.Bits.{bit_and, bit_or, and_le_r, and_le_l, or_lt}
 use Rattle.std.proofs.lemmas.Bool.{cases_Bool, cases_eq, eq-eqb, ne_eqb, or_left, both_ways}
 use Rattle.std.proofs.lemmas.Bool.Decides.{nat_tests}

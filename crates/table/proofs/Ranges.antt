@@ -3,7 +3,6 @@ use Rattle.std.proofs.Common.{ℕ, refl, arith}
 use Rattle.std.proofs.iter.Yields.{nat_range_steps}
 use Rattle.std.proofs.lemmas.Iterator.{YieldsList, YieldsList-from_range}
 use Rattle.std.specs.List.{range_with_len}
-use Rattle.std.specs.declared.ops.Range.{Range}
 
 -- the range of the numbers below n yields them in turn
 pub numbers_below : (n : ℕ) → YieldsList nat_range_steps (λ x. x) (record { start = 0; end = n }) (range_with_len 0 n)

@@ -1,8 +1,7 @@
-use Rattle.std.proofs.Common.{◌≡◌, None, Err, sym, refl, ap, ◌∙◌, subst}
+use Rattle.std.proofs.Common.{◌≡◌, None, refl, ap, ◌∙◌}
 use Rattle.std.proofs.lemmas.Result.{err_from_is_err_and}
 use Rattle.table.specs.Layout.{described}
-use Rattle.table.specs.Questions.{place_fault, input_fault, first_fault, header_fault, rows_fault, or_else}
-use Rattle.table.specs.View.{Checked}
+use Rattle.table.specs.Questions.{input_fault, first_fault, header_fault, rows_fault, or_else}
 use Rattle.table.proofs.Fills.{loaded_whole, loaded_fault, answer_whole}
 use Rattle.table.proofs.Scans.{all_asked, fault_of, no_fault_of}
 use Rattle.table.proofs.questions.checked.Goals as goal

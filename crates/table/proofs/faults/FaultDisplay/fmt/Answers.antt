@@ -1,4 +1,4 @@
-use Rattle.std.proofs.Common.{◌≡◌, ℕ, List, ◌++◌, None, codes, decimal, ap, ◌∙◌, subst, rules}
+use Rattle.std.proofs.Common.{◌≡◌, ℕ, List, ◌++◌, None, codes, decimal, ap, subst}
 use Rattle.std.specs.Fmt.{HasWritten}
 use Rattle.table.specs.Faults.{number_of, row_of, offset_of, reason_of, line_with, line_of}
 use Rattle.table.specs.declared.faults.Fault.{Fault}

@@ -1,4 +1,4 @@
-use Rattle.std.proofs.Common.{◌≡◌, cond, not, Some, None, sym, ap, ◌∙◌}
+use Rattle.std.proofs.Common.{cond, not, Some, None, sym, ap, ◌∙◌}
 use Rattle.table.specs.Layout.{described}
 use Rattle.table.specs.Questions.{input_fault}
 use Rattle.table.specs.Reading.{ok_unless}

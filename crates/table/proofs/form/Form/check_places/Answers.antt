@@ -1,10 +1,9 @@
-use Rattle.std.proofs.Common.{◌≡◌, ◌-◌, get_or, Err, sym, refl, ap, ◌∙◌, arith}
-use Rattle.std.proofs.lemmas.List.{length-set, get_or-replicate}
+use Rattle.std.proofs.Common.{Err, sym, refl, ap, ◌∙◌}
+use Rattle.std.proofs.lemmas.List.{length-set}
 use Rattle.std.proofs.lemmas.Result.{err_from_is_err_and}
 use Rattle.table.specs.Layout.{described}
 use Rattle.table.specs.Questions.{place_fault}
 use Rattle.table.specs.Reading.{ok_unless}
-use Rattle.table.specs.declared.rows.Row.{Row}
 use Rattle.table.proofs.Scans.{fault_of, no_fault_of, scan_found, scan_more, kept_more, place_asked}
 use Rattle.table.proofs.form.Form.check_places.Goals as goal
 
