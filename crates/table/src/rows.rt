@@ -1,6 +1,6 @@
 ghost use Rattle.std.specs.Prelude.{◌≡◌, not};
 ghost use Rattle.table.specs.Below.{any_below};
-ghost use Rattle.table.specs.Sets.{has, includes, less, none, with, without};
+ghost use Rattle.table.specs.Sets.{has, includes, less, with, without};
 ghost use Rattle.table.specs.Rows.{on, ends_by};
 
 // A set of cores: one bit for each of 8 cores, the least significant for core 0.
