@@ -1,10 +1,10 @@
 -- The loops of load over the rows of the bytes.
-use Rattle.std.proofs.Common.{◌≡◌, ℕ, suc, ◌+◌, ◌-◌, ◌<◌, min, Bool, cond, not, ◌&&◌, ◌||◌, ltb, leb, List, [], ◌∷◌, length, get_or, take, set, ◌++◌, Some, None, Ok, Err, Option, sym, refl, ap, ◌∙◌, ⊎_elim, arith}
+use Rattle.std.proofs.Common.{◌≡◌, ℕ, suc, ◌+◌, ◌-◌, ◌<◌, min, Bool, true, false, cond, not, ◌&&◌, ◌||◌, ltb, leb, List, [], ◌∷◌, length, get_or, take, set, ◌++◌, Some, None, Ok, Err, Option, sym, refl, ap, ◌∙◌, ⊎_elim, arith}
 use Rattle.std.proofs.Math.Bool.{or_assoc}
 use Rattle.std.proofs.lemmas.List.FromFn.{map-range_with_len_more, take-map-range_with_len}
 use Rattle.std.proofs.lemmas.List.{get_or-set_same, get_or-set_other}
 use Rattle.std.proofs.lemmas.Bool.Decides.{nat_tests}
-use Rattle.std.proofs.lemmas.Bool.{cases_Bool, cases_eq, eq-eqb, ne_eqb, cond-true, cond-false}
+use Rattle.std.proofs.lemmas.Bool.{cases_eq}
 use Rattle.table.specs.Below.{all_below}
 use Rattle.table.specs.Sets.{has}
 use Rattle.table.specs.Rows.{row, on, kept_end, last_end}
@@ -48,9 +48,8 @@ kept_more keep first bytes t r is c here kept room v new each k l =
     let more : kept_end keep k (rows_of bytes (t + 1)) first ≡ cond (on k r) (keep r.end (kept_end keep k (rows_of bytes t) first)) (kept_end keep k (rows_of bytes t) first) =
     ap (λ xs. kept_end keep k xs first) (map-range_with_len_more (row_at bytes) 0 t t (omega arith)) ∙ (ap (λ x. kept_end keep k (rows_of bytes t ++ (x ∷ [])) first) (sym is) ∙ kept_push keep k (rows_of bytes t) r first) in
     ⊎_elim
-    (λ e. ap (λ i. get_or (set kept c v) i first) e ∙ (get_or-set_same kept c v first (omega (arith, room, small)) ∙ (new ∙ (ap (keep r.end) (ap (λ i. get_or kept i first) (sym e) ∙ each k l)
-    ∙ (sym (cond-true (on k r) _ _ (eq-eqb _ _ (sym here ∙ sym e))) ∙ sym more)))))
-    (λ e. get_or-set_other kept c k v first e ∙ (each k l ∙ (sym (cond-false (on k r) _ _ (ne_eqb _ _ (λ q. e (sym q ∙ sym here)))) ∙ sym more)))
+    (λ e. grind (arith, nat_tests, more, each k l, e, here, new, get_or-set_same kept c v first (omega (arith, room, small))))
+    (λ e. get_or-set_other kept c k v first e ∙ grind (arith, nat_tests, more, each k l, e, here))
     (cases_eq k c)
 
 -- questions 4 to 6 of row t of the bytes
@@ -82,13 +81,11 @@ sooner_reached a time (Some b) = min_reached a b time
 -- the earliest end tells whether some row ends by a time
 earliest_tells : (k time : ℕ) (rows : List Row) (sofar : Option ℕ) → reached time (kept_end sooner k rows sofar) ≡ (reached time sofar || some_ends_by k time rows)
 earliest_tells k time [] sofar = grind arith
-earliest_tells k time (r ∷ rs) sofar = ⊎_elim
-    (λ e. ap (λ s. reached time (kept_end sooner k rs s)) (cond-true (on k r) (sooner r.end sofar) sofar e) ∙ (earliest_tells k time rs (sooner r.end sofar)
-    ∙ (ap (λ b. b || some_ends_by k time rs) (sooner_reached r.end time sofar) ∙ (or_assoc (reached time sofar) (leb r.end time) (some_ends_by k time rs)
-    ∙ ap (λ b. reached time sofar || ((b && leb r.end time) || some_ends_by k time rs)) (sym e)))))
-    (λ e. ap (λ s. reached time (kept_end sooner k rs s)) (cond-false (on k r) (sooner r.end sofar) sofar e) ∙ (earliest_tells k time rs sofar
-    ∙ ap (λ b. reached time sofar || ((b && leb r.end time) || some_ends_by k time rs)) (sym e)))
-    (cases_Bool (on k r))
+earliest_tells k time (r ∷ rs) sofar = earliest_tells k time rs (cond (on k r) (sooner r.end sofar) sofar) ∙ one (on k r) (some_ends_by k time rs)
+  where
+    one : (b rest : Bool) → (reached time (cond b (sooner r.end sofar) sofar) || rest) ≡ (reached time sofar || ((b && leb r.end time) || rest))
+    one true rest = ap (λ x. x || rest) (sooner_reached r.end time sofar) ∙ or_assoc (reached time sofar) (leb r.end time) rest
+    one false rest = refl
 
 -- question 7 of row t of the bytes, as the code asks it
 pub input_asked : (bytes : List ℕ) (h : Header) → Heads bytes h → (ends : List (Option ℕ)) → ((k : ℕ) → k < 8 → get_or ends k None ≡ earliest_end k (rows_of bytes h.tasks)) → (t : ℕ) → t < h.tasks → (r : Row) → r ≡ row_at bytes t → (b : Bool) →

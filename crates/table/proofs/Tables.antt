@@ -1,6 +1,6 @@
 -- What the fact in a table says of its rows.
 use Rattle.std.proofs.Common.{◌≡◌, ℕ, zero, suc, ◌+◌, ◌<◌, ◌≤◌, Bool, true, false, not, ◌&&◌, eqb, leb, ◌⊎◌, List, [], ◌∷◌, length, get_or, drop, is_some, Some, None, Option, sym, refl, ap, ◌∙◌, subst, inl, inr, ⊎_elim, arith}
-use Rattle.std.proofs.lemmas.Bool.{cases_Bool, cases_lt, leb-true, eqb-true, not-true, and_parts, or_cases, cond-true, cond-false, ne_eqb}
+use Rattle.std.proofs.lemmas.Bool.{cases_Bool, cases_lt, leb-true, eqb-true, not-true, and_parts, or_cases}
 use Rattle.std.proofs.lemmas.List.{get_or_past, length-take-le}
 use Rattle.std.proofs.lemmas.List.Sums.{count_by-le-length}
 use Rattle.std.specs.List.{range_with_len, slice_get, filter}
@@ -103,17 +103,6 @@ few_tasks t = omega (arith, few_rows t, count_rows t)
 pub few_on : (t : Table) (k : ℕ) → tasks_on (plan_of t).rows k ≤ 384
 few_on t k = omega (arith, few_rows t, count_by-le-length (on k) (plan_of t).rows)
 
--- the search for a place, one row on
-place_hit : (k i : ℕ) (r : Row) (rs : List Row) → r.core ≡ k → nth_on k 0 i (r ∷ rs) ≡ i
-place_hit k i r rs e = grind (arith, nat_tests)
-
-place_pass : (k n i : ℕ) (r : Row) (rs : List Row) → r.core ≡ k → nth_on k (suc n) i (r ∷ rs) ≡ nth_on k n (suc i) rs
-place_pass k n i r rs e = grind (arith, nat_tests)
-
-place_miss : (k n i : ℕ) (r : Row) (rs : List Row) → (r.core ≡ k → ⊥) → nth_on k n i (r ∷ rs) ≡ nth_on k n (suc i) rs
-place_miss k zero i r rs e = cond-false (eqb r.core k) _ _ (ne_eqb _ _ e)
-place_miss k (suc n) i r rs e = cond-false (eqb r.core k) _ _ (ne_eqb _ _ e)
-
 -- a number below 511 names a task, and none but that
 pub named_small : (t : ℕ) → t < 511 → named t ≡ Some t
 named_small t l = grind (arith, nat_tests)
@@ -169,13 +158,12 @@ then_back k n m i r rs a b f =
 then_at : (k n i : ℕ) (rows : List Row) → n < tasks_on rows k → Then k n i rows
 then_at k n i [] h = absurd (omega arith)
 then_at k zero i (r ∷ rs) h = ⊎_elim
-    (λ e. let j : suc i ≡ i + 1 = omega arith in
-    record { at = 0; is = cond-true (on k r) _ _ e ∙ omega arith; next = cond-true (on k r) _ _ e ∙ ap (λ x. nth_on k 0 x rs) j })
-    (λ e. then_back k 0 0 i r rs (cond-false (on k r) _ _ e) (cond-false (on k r) _ _ e) (then_at k zero (suc i) rs (omega (arith, count_out (on k) r rs e))))
+    (λ e. record { at = 0; is = grind (arith, nat_tests); next = grind (arith, nat_tests) })
+    (λ e. then_back k 0 0 i r rs (grind (arith, nat_tests)) (grind (arith, nat_tests)) (then_at k zero (suc i) rs (omega (arith, count_out (on k) r rs e))))
     (cases_Bool (on k r))
 then_at k (suc n) i (r ∷ rs) h = ⊎_elim
-    (λ e. then_back k (suc n) n i r rs (cond-true (on k r) _ _ e) (cond-true (on k r) _ _ e) (then_at k n (suc i) rs (omega (arith, count_in (on k) r rs e))))
-    (λ e. then_back k (suc n) (suc n) i r rs (cond-false (on k r) _ _ e) (cond-false (on k r) _ _ e) (then_at k (suc n) (suc i) rs (omega (arith, count_out (on k) r rs e))))
+    (λ e. then_back k (suc n) n i r rs (grind (arith, nat_tests)) (grind (arith, nat_tests)) (then_at k n (suc i) rs (omega (arith, count_in (on k) r rs e))))
+    (λ e. then_back k (suc n) (suc n) i r rs (grind (arith, nat_tests)) (grind (arith, nat_tests)) (then_at k (suc n) (suc i) rs (omega (arith, count_out (on k) r rs e))))
     (cases_Bool (on k r))
 
 pub after_nth : (k n : ℕ) (rows : List Row) → n < tasks_on rows k → nth_on k (n + 1) 0 rows ≡ nth_on k 0 (nth_on k n 0 rows + 1) (drop (nth_on k n 0 rows + 1) rows)

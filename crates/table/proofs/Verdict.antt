@@ -1,7 +1,7 @@
 -- The rows of a plan pass every question exactly when the plan is lawful.
 use Rattle.std.proofs.Common.{◌≡◌, ℕ, zero, suc, ◌+◌, ◌^◌, ◌<◌, ◌≤◌, Bool, true, false, cond, not, ltb, leb, List, [], ◌∷◌, ◌++◌, length, get_or, take, Some, None, Option, sym, refl, ap, ◌∙◌, subst, ⊎_elim, arith}
 use Rattle.std.proofs.lemmas.List.{get_or-take, length-take-le, take_more}
-use Rattle.std.proofs.lemmas.Bool.{cases_Bool, cases_lt, cases_eq, eqb-true, eqb-false, eq-eqb, ne_eqb, ltb-true, lt-ltb, leb-true, le-leb, not-true, not-false, not_from_true, not_from_false, and_parts, and_from, or_cases, or_left, or_right, cond-true, cond-false, both_ways}
+use Rattle.std.proofs.lemmas.Bool.{cases_Bool, cases_lt, cases_eq, eqb-true, eqb-false, ne_eqb, ltb-true, lt-ltb, leb-true, not-true, not-false, not_from_true, not_from_false, and_parts, and_from, or_cases, or_left, or_right, cond-true, cond-false, both_ways}
 use Rattle.std.proofs.lemmas.Bool.Decides.{nat_tests}
 use Rattle.table.specs.Below.{all_below}
 use Rattle.table.specs.Sets.{has}
@@ -56,10 +56,7 @@ kept_push keep k (r ∷ rs) x sofar = kept_push keep k rs x (cond (on k r) (keep
 -- if no row of core k ends after m, neither does the last
 last_bound : (k m : ℕ) (rows : List Row) (sofar : ℕ) → sofar ≤ m → ((a : ℕ) → a < length rows → (get_or rows a blank).core ≡ k → (get_or rows a blank).end ≤ m) → kept_end (λ new old. new) k rows sofar ≤ m
 last_bound k m [] sofar l h = l
-last_bound k m (r ∷ rs) sofar l h = ⊎_elim
-    (λ e. subst (λ s. kept_end (λ new old. new) k rs s ≤ m) (sym (cond-true (on k r) r.end sofar e)) (last_bound k m rs r.end (h 0 (omega arith) (eqb-true _ _ e)) (λ a q. h (suc a) (omega arith))))
-    (λ e. subst (λ s. kept_end (λ new old. new) k rs s ≤ m) (sym (cond-false (on k r) r.end sofar e)) (last_bound k m rs sofar l (λ a q. h (suc a) (omega arith))))
-    (cases_Bool (on k r))
+last_bound k m (r ∷ rs) sofar l h = last_bound k m rs (cond (on k r) r.end sofar) (grind (arith, nat_tests, h 0)) (λ a q. h (suc a) (omega arith))
 
 -- no row of core k before row t ends after the last of them
 module _ (p : Plan) (places : (t : ℕ) → t < length p.rows → Placed p t) where
@@ -103,8 +100,8 @@ found_by k time p i (r ∷ rs) at h = ⊎_elim
 
 found_at : (k time : ℕ) (rows : List Row) (a : ℕ) → a < length rows → (get_or rows a blank).core ≡ k → (get_or rows a blank).end ≤ time → some_ends_by k time rows ≡ true
 found_at k time [] a l c e = absurd (omega arith)
-found_at k time (r ∷ rs) zero l c e = or_left _ _ (and_from _ _ (eq-eqb _ _ c) (le-leb _ _ e))
-found_at k time (r ∷ rs) (suc a) l c e = or_right (ends_by k time r) _ (found_at k time rs a (omega arith) c e)
+found_at k time (r ∷ rs) zero l c e = grind (arith, nat_tests)
+found_at k time (r ∷ rs) (suc a) l c e = grind (arith, nat_tests, found_at k time rs a)
 
 writes : (p : Plan) (r : Row) (k : ℕ) → input_ok p r k ≡ true → has r.inputs k ≡ true → Writes p r k
 writes p r k h m = ⊎_elim
