@@ -1,7 +1,8 @@
 -- Load accepts the bytes of a lawful table, and no others.
-use Rattle.std.proofs.Common.{◌≡◌, ℕ, zero, suc, ◌+◌, ◌*◌, ◌^◌, ◌<◌, ◌≤◌, not, ◌&&◌, eqb, leb, List, length, get_or, Some, None, Ok, Err, Option, sym, refl, ap, ◌∙◌, subst, arith}
+use Rattle.std.proofs.Common.{◌≡◌, ℕ, zero, suc, ◌+◌, ◌*◌, ◌^◌, ◌<◌, ◌≤◌, not, ◌&&◌, eqb, leb, List, length, get_or, None, Ok, Option, sym, refl, ap, ◌∙◌, subst, arith}
 use Rattle.std.proofs.lemmas.List.FromFn.{length-map-range_with_len, get_or-map-range_with_len, fill_by_all}
-use Rattle.std.proofs.lemmas.Bool.{eqb-true, eq-eqb, leb-true, le-leb, not-false, not_from_true, and_parts, and_from, cond-false}
+use Rattle.std.proofs.lemmas.Bool.{eqb-true, leb-true, not-false, and_parts}
+use Rattle.std.proofs.lemmas.Bool.Decides.{nat_tests}
 use Rattle.table.specs.Bits.{field}
 use Rattle.table.specs.Rows.{Plan, row, blank}
 use Rattle.table.specs.Layout.{cores_of, tasks_of, ticks_of, rows_of, row_at, core_bit, start_bit, end_bit, claim_bit, inputs_bit, described}
@@ -35,12 +36,8 @@ row_is bytes n t l = get_or-map-range_with_len (row_at bytes) 0 n t t blank l (o
 pub described_fits : (bytes : List ℕ) (t : ℕ) → t < length (described bytes).rows → RowFits (row (described bytes) t)
 described_fits bytes t l = subst RowFits (sym (row_is bytes (tasks_of bytes) t (omega (arith, rows_length bytes (tasks_of bytes))))) (row_at_fits bytes t)
 
-wrong : (f : Fault) (p : Plan) → Err f ≡ Ok p → ⊥
-wrong f p h = let z : ◌≡◌ {A = ℕ} 0 1 = cc in omega arith
-
 pub unless_ok : (o : Option Fault) (d p : Plan) → unless o d ≡ Ok p → (o ≡ None) × (d ≡ p)
-unless_ok None d p h = (refl, cc)
-unless_ok (Some f) d p h = absurd (wrong f p h)
+unless_ok o d p h = grind arith
 
 describes : (bytes : List ℕ) → get_or bytes 0 0 ≡ 87 → 1 ≤ tasks_of bytes → tasks_of bytes ≤ 384 → length bytes ≡ 6 + 11 * tasks_of bytes → Describes bytes (described bytes)
 describes bytes m s f l =
@@ -80,10 +77,7 @@ same_plan bytes p h =
     ∙ ap (λ xs. record { cores = cores_of bytes; ticks = ticks_of bytes; rows = xs }) (rows ∙ more))
 
 pub no_header_fault : (bytes : List ℕ) → 6 ≤ length bytes → get_or bytes 0 0 ≡ 87 → 1 ≤ tasks_of bytes → tasks_of bytes ≤ 384 → length bytes ≡ 6 + 11 * tasks_of bytes → header_fault bytes ≡ None
-no_header_fault bytes l m s f e =
-    cond-false _ _ _ (not_from_true _ (and_from _ _ (le-leb _ _ l) (eq-eqb _ _ m)))
-    ∙ (cond-false _ _ _ (not_from_true _ (and_from _ _ (le-leb _ _ s) (le-leb _ _ f)))
-    ∙ cond-false _ _ _ (not_from_true _ (eq-eqb _ _ e)))
+no_header_fault bytes l m s f e = grind (arith, nat_tests)
 
 accepts : (bytes : List ℕ) (p : Plan) → Describes bytes p → Lawful p → loaded bytes ≡ Ok p
 accepts bytes p h l =

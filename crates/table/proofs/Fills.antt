@@ -2,9 +2,10 @@
 use Rattle.std.proofs.Common.{◌≡◌, ℕ, suc, ◌^◌, ◌<◌, true, not, List, [], ◌∷◌, length, get_or, take, is_some, Some, None, Ok, Err, sym, refl, ap, ◌∙◌, arith}
 use Rattle.table.specs.declared.faults.Fault.{Fault}
 use Rattle.std.proofs.lemmas.Bool.{lt-ltb, le-leb, and_from, or_right}
+use Rattle.std.proofs.lemmas.Bool.Decides.{nat_tests}
 use Rattle.table.specs.Rows.{blank}
 use Rattle.table.specs.Layout.{cores_of, tasks_of, ticks_of, rows_of, described}
-use Rattle.table.specs.Questions.{header_fault, rows_fault, or_else, unless, loaded, answered}
+use Rattle.table.specs.Questions.{header_fault, rows_fault, or_else, loaded, answered}
 use Rattle.table.specs.Lawful.{RowFits}
 use Rattle.table.specs.Reading.{Heads}
 use Rattle.table.specs.Sound.{row_fits, rows_fit, plan_fits, is_lawful, is_nothing, plan_from, sound}
@@ -14,7 +15,7 @@ use Rattle.table.proofs.Verdict.{neither}
 use Rattle.table.proofs.Accepts.{field_lt, rows_length, described_fits, unless_ok}
 
 row_passes : (r : Row) → RowFits r → row_fits r ≡ true
-row_passes r f = and_from _ _ (lt-ltb _ _ f.core) (and_from _ _ (lt-ltb _ _ f.start) (and_from _ _ (lt-ltb _ _ f.end) (and_from _ _ (lt-ltb _ _ f.claim) (lt-ltb _ _ f.inputs))))
+row_passes r f = grind (arith, nat_tests)
 
 rows_pass : (rows : List Row) → ((t : ℕ) → t < length rows → RowFits (get_or rows t blank)) → rows_fit rows ≡ true
 rows_pass [] each = refl
@@ -31,10 +32,7 @@ plan_passes bytes h e =
 
 -- the plan of the fields that load writes is the one that the bytes describe
 pub filled_plan : (bytes : List ℕ) (h : Header) (rows : List Row) → Heads bytes h → take h.tasks rows ≡ rows_of bytes h.tasks → plan_from h.cores h.tasks h.ticks rows ≡ described bytes
-filled_plan bytes h rows e is =
-    ap (λ k. record { cores = k; ticks = h.ticks; rows = take h.tasks rows }) e.cores
-    ∙ (ap (λ k. record { cores = cores_of bytes; ticks = k; rows = take h.tasks rows }) e.ticks
-    ∙ ap (λ xs. record { cores = cores_of bytes; ticks = ticks_of bytes; rows = xs }) (is ∙ ap (rows_of bytes) e.tasks))
+filled_plan bytes h rows e is = grind (arith, nat_tests)
 
 pub filled_sound : (bytes : List ℕ) (h : Header) (rows : List Row) → Heads bytes h → loaded bytes ≡ Ok (described bytes) → take h.tasks rows ≡ rows_of bytes h.tasks → length rows ≡ 384 → sound h.cores h.tasks h.ticks rows ≡ true
 unfolding sound
@@ -46,10 +44,10 @@ filled_sound bytes h rows e whole is room =
 
 -- what load makes of bytes without a fault, and of bytes with one
 pub loaded_whole : (bytes : List ℕ) → or_else (header_fault bytes) (rows_fault (described bytes)) ≡ None → loaded bytes ≡ Ok (described bytes)
-loaded_whole bytes none = ap (λ o. unless o (described bytes)) none
+loaded_whole bytes none = grind (arith, nat_tests)
 
 pub loaded_fault : (bytes : List ℕ) (f : Fault) → or_else (header_fault bytes) (rows_fault (described bytes)) ≡ Some f → loaded bytes ≡ Err f
-loaded_fault bytes f some = ap (λ o. unless o (described bytes)) some
+loaded_fault bytes f some = grind (arith, nat_tests)
 
 pub answer_whole : (bytes : List ℕ) (h : Header) → Heads bytes h → or_else (header_fault bytes) (rows_fault (described bytes)) ≡ None → Ok h.tasks ≡ answered (loaded bytes)
 answer_whole bytes h e none = ap Ok (e.tasks ∙ sym (rows_length bytes (tasks_of bytes))) ∙ sym (ap answered (loaded_whole bytes none))

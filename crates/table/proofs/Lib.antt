@@ -9,3 +9,5 @@ pub mod Scans
 pub mod Fills
 pub mod Tables
 pub mod Ordered
+pub mod FromFn
+pub mod Ranges

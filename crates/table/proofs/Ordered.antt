@@ -28,10 +28,6 @@ ordered p (inl e) = subst Ordered (sym e) none
     }
 ordered p (inr h) = record { few = h.0.few_cores; short = h.0.few_tasks; on_core = h.1.on_a_core; spans = h.1.forward; after = h.1.in_order }
 
--- a task is not none
-some_none : (t : ℕ) → Some t ≡ None → ⊥
-some_none t e = let z : ◌≡◌ {A = ℕ} 0 1 = cc in omega arith
-
 -- a place of a core that has a task names it, one without names none
 module _ (p : Plan) (o : Ordered p) (k n : ℕ) where
   pub nth_some : n < tasks_on p.rows k → named (nth_on k n 0 p.rows) ≡ Some (nth_on k n 0 p.rows)
@@ -44,12 +40,12 @@ module _ (p : Plan) (o : Ordered p) (k n : ℕ) where
   pub some_nth : (t : ℕ) → named (nth_on k n 0 p.rows) ≡ Some t → (nth_on k n 0 p.rows ≡ t) × (t < length p.rows)
   some_nth t e = ⊎_elim
       (λ h. let i = named_some _ t e in (i, subst (λ u. u < length p.rows) i (nth_within k n p.rows h)))
-      (λ h. absurd (some_none t (sym e ∙ nth_past h)))
+      (λ h. let z : Some t ≡ None = sym e ∙ nth_past h in cc)
       (cases_lt n (tasks_on p.rows k))
 
   -- where no task is named, the number is past all rows
   pub none_nth : named (nth_on k n 0 p.rows) ≡ None → length p.rows ≤ nth_on k n 0 p.rows
   none_nth e = ⊎_elim
-      (λ h. absurd (some_none _ (sym (nth_some h) ∙ e)))
+      (λ h. let z : Some (nth_on k n 0 p.rows) ≡ None = sym (nth_some h) ∙ e in cc)
       (λ h. omega (arith, nth_none k n 0 p.rows h, o.short))
       (cases_lt n (tasks_on p.rows k))

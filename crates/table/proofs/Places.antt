@@ -1,8 +1,9 @@
 -- Places of tasks on their cores: the (n+1)th row of a core, and how many rows of a core a task waits for.
-use Rattle.std.proofs.Common.{◌≡◌, ℕ, zero, suc, ◌+◌, ◌<◌, ◌≤◌, Bool, true, false, cond, leb, List, [], ◌∷◌, length, get_or, take, count_by, refl, ap, ◌∙◌, subst, ⊎_elim, arith}
+use Rattle.std.proofs.Common.{◌≡◌, ℕ, zero, suc, ◌+◌, ◌<◌, ◌≤◌, Bool, true, false, cond, List, [], ◌∷◌, length, get_or, take, count_by, refl, ◌∙◌, subst, ⊎_elim, arith}
 use Rattle.std.proofs.lemmas.List.Sums.{sum_by-cons, sum_by-take-le, count_by_more_yes}
 use Rattle.std.proofs.lemmas.List.{take-take}
-use Rattle.std.proofs.lemmas.Bool.{cases_Bool, cond-true, cond-false, eqb-true, eq-eqb, ne_eqb, leb-true, leb-false, le-leb, lt-leb, and_left, and_right, and_from}
+use Rattle.std.proofs.lemmas.Bool.{cases_Bool, eqb-true}
+use Rattle.std.proofs.lemmas.Bool.Decides.{nat_tests}
 use Rattle.table.specs.Rows.{blank, on, ends_by, no_task, tasks_on, nth_on}
 use Rattle.table.specs.declared.rows.Row.{Row}
 
@@ -10,11 +11,15 @@ use Rattle.table.specs.declared.rows.Row.{Row}
 abbrev pub before : ℕ → List Row → ℕ → ℕ
 before k rows t = count_by (on k) (take t rows)
 
+-- a count, one element further left
+count_one : {X : Type 0} (p : X → Bool) (x : X) (xs : List X) → count_by p (x ∷ xs) ≡ cond (p x) 1 0 + count_by p xs
+count_one p x xs = sum_by-cons (λ y. cond (p y) 1 0) x xs
+
 pub count_yes : {X : Type 0} (p : X → Bool) (x : X) (xs : List X) → p x ≡ true → count_by p (x ∷ xs) ≡ suc (count_by p xs)
-count_yes p x xs e = let a = sum_by-cons (λ y. cond (p y) 1 0) x xs in let b = cond-true {A = ℕ} (p x) 1 0 e in omega arith
+count_yes p x xs e = grind (arith, count_one p x xs)
 
 pub count_no : {X : Type 0} (p : X → Bool) (x : X) (xs : List X) → p x ≡ false → count_by p (x ∷ xs) ≡ count_by p xs
-count_no p x xs e = let a = sum_by-cons (λ y. cond (p y) 1 0) x xs in let b = cond-false {A = ℕ} (p x) 1 0 e in omega arith
+count_no p x xs e = grind (arith, count_one p x xs)
 
 -- what nth_on finds
 pub record Found (k n i : ℕ) (rows : List Row) : Type 0 where
@@ -24,66 +29,41 @@ pub record Found (k n i : ℕ) (rows : List Row) : Type 0 where
   pub core : (get_or rows at blank).core ≡ k
   pub place : before k rows at ≡ n
 
-found_miss : (k n i : ℕ) (r : Row) (rs : List Row) → on k r ≡ false → nth_on k n i (r ∷ rs) ≡ nth_on k n (suc i) rs → Found k n (suc i) rs → Found k n i (r ∷ rs)
-found_miss k n i r rs e step f = record {
-  at = suc f.at;
-  is = step ∙ (f.is ∙ omega arith);
-  within = omega arith;
-  core = f.core;
-  place = count_no (on k) r (take f.at rs) e ∙ f.place;
-}
+found_on : (k n m i : ℕ) (r : Row) (rs : List Row) → n ≡ cond (on k r) 1 0 + m → nth_on k n i (r ∷ rs) ≡ nth_on k m (suc i) rs → Found k m (suc i) rs → Found k n i (r ∷ rs)
+found_on k n m i r rs e step f = record { at = suc f.at; is = step ∙ (f.is ∙ omega arith); within = omega arith; core = f.core; place = grind (arith, e, f.place, count_one (on k) r (take f.at rs)) }
 
 pub nth_found : (k n i : ℕ) (rows : List Row) → n < tasks_on rows k → Found k n i rows
 nth_found k n i [] h = absurd (omega arith)
 nth_found k zero i (r ∷ rs) h = ⊎_elim
-    (λ e. record { at = 0; is = cond-true (on k r) _ _ e ∙ omega arith; within = omega arith; core = eqb-true _ _ e; place = refl })
-    (λ e. found_miss k zero i r rs e (cond-false (on k r) _ _ e) (nth_found k zero (suc i) rs (omega (arith, count_no (on k) r rs e))))
+    (λ e. record { at = 0; is = grind (arith, nat_tests); within = omega arith; core = eqb-true _ _ e; place = refl })
+    (λ e. found_on k 0 0 i r rs (grind (arith, nat_tests)) (grind (arith, nat_tests)) (nth_found k zero (suc i) rs (grind (arith, count_one (on k) r rs))))
     (cases_Bool (on k r))
 nth_found k (suc n) i (r ∷ rs) h = ⊎_elim
-    (λ e. let f = nth_found k n (suc i) rs (omega (arith, count_yes (on k) r rs e)) in record {
-      at = suc f.at;
-      is = cond-true (on k r) _ _ e ∙ (f.is ∙ omega arith);
-      within = omega arith;
-      core = f.core;
-      place = count_yes (on k) r (take f.at rs) e ∙ ap suc f.place;
-    })
-    (λ e. found_miss k (suc n) i r rs e (cond-false (on k r) _ _ e) (nth_found k (suc n) (suc i) rs (omega (arith, count_no (on k) r rs e))))
+    (λ e. found_on k (suc n) n i r rs (grind (arith, nat_tests)) (grind (arith, nat_tests)) (nth_found k n (suc i) rs (grind (arith, count_one (on k) r rs))))
+    (λ e. found_on k (suc n) (suc n) i r rs (grind (arith, nat_tests)) (grind (arith, nat_tests)) (nth_found k (suc n) (suc i) rs (grind (arith, count_one (on k) r rs))))
     (cases_Bool (on k r))
 
 -- past the tasks of core k there is none
 pub nth_none : (k n i : ℕ) (rows : List Row) → tasks_on rows k ≤ n → nth_on k n i rows ≡ no_task
 nth_none k zero i [] h = refl
 nth_none k (suc n) i [] h = refl
-nth_none k zero i (r ∷ rs) h = ⊎_elim
-    (λ e. absurd (omega (arith, h, count_yes (on k) r rs e)))
-    (λ e. cond-false (on k r) _ _ e ∙ nth_none k zero (suc i) rs (omega (arith, h, count_no (on k) r rs e)))
-    (cases_Bool (on k r))
-nth_none k (suc n) i (r ∷ rs) h = ⊎_elim
-    (λ e. cond-true (on k r) _ _ e ∙ nth_none k n (suc i) rs (omega (arith, h, count_yes (on k) r rs e)))
-    (λ e. cond-false (on k r) _ _ e ∙ nth_none k (suc n) (suc i) rs (omega (arith, h, count_no (on k) r rs e)))
-    (cases_Bool (on k r))
+nth_none k zero i (r ∷ rs) h = grind (arith, nat_tests, nth_none k zero (suc i) rs, count_one (on k) r rs)
+nth_none k (suc n) i (r ∷ rs) h = grind (arith, nat_tests, nth_none k n (suc i) rs, nth_none k (suc n) (suc i) rs, count_one (on k) r rs)
 
 -- a core on which no row lies has no tasks
 pub none_on : (k : ℕ) (rows : List Row) → ((t : ℕ) → t < length rows → (get_or rows t blank).core ≡ k → ⊥) → tasks_on rows k ≡ 0
 none_on k [] h = refl
-none_on k (r ∷ rs) h = count_no (on k) r rs (ne_eqb _ _ (h 0 (omega arith))) ∙ none_on k rs (λ t l. h (suc t) (omega arith))
+none_on k (r ∷ rs) h = grind (arith, nat_tests, h 0, none_on k rs (λ t l. h (suc t) (omega arith)), count_one (on k) r rs)
 
 -- a row is found at its place
 pub nth_at : (k i j : ℕ) (rows : List Row) → j < length rows → (get_or rows j blank).core ≡ k → nth_on k (before k rows j) i rows ≡ i + j
 nth_at k i j [] h c = absurd (omega arith)
-nth_at k i zero (r ∷ rs) h c = cond-true (on k r) _ _ (eq-eqb _ _ c) ∙ omega arith
-nth_at k i (suc j) (r ∷ rs) h c = ⊎_elim
-    (λ e. ap (λ n. nth_on k n i (r ∷ rs)) (count_yes (on k) r (take j rs) e) ∙ (cond-true (on k r) _ _ e ∙ (nth_at k (suc i) j rs (omega arith) c ∙ omega arith)))
-    (λ e. ap (λ n. nth_on k n i (r ∷ rs)) (count_no (on k) r (take j rs) e) ∙ (nth_skip k (before k rs j) i r rs e ∙ (nth_at k (suc i) j rs (omega arith) c ∙ omega arith)))
-    (cases_Bool (on k r))
-  where
-    nth_skip : (k n i : ℕ) (r : Row) (rs : List Row) → on k r ≡ false → nth_on k n i (r ∷ rs) ≡ nth_on k n (suc i) rs
-    nth_skip k zero i r rs e = cond-false (on k r) _ _ e
-    nth_skip k (suc n) i r rs e = cond-false (on k r) _ _ e
+nth_at k i zero (r ∷ rs) h c = grind (arith, nat_tests)
+nth_at k i (suc j) (r ∷ rs) h c = grind (arith, nat_tests, nth_at k (suc i) j rs, count_one (on k) r (take j rs))
 
 -- a row's place is below the number of tasks of its core
 pub before_lt : (k : ℕ) (rows : List Row) (j : ℕ) → j < length rows → (get_or rows j blank).core ≡ k → before k rows j < tasks_on rows k
-before_lt k rows j h c = omega (arith, count_by_more_yes (on k) rows j blank h (eq-eqb _ _ c), sum_by-take-le (λ r. cond (on k r) 1 0) rows (j + 1))
+before_lt k rows j h c = grind (arith, nat_tests, count_by_more_yes (on k) rows j blank h, sum_by-take-le (λ r. cond (on k r) 1 0) rows (j + 1))
 
 pub before_mono : (k : ℕ) (rows : List Row) (i j : ℕ) → i ≤ j → before k rows i ≤ before k rows j
 before_mono k rows i j h = subst (λ xs. count_by (on k) xs ≤ before k rows j) (take-take i j rows h) (sum_by-take-le (λ r. cond (on k r) 1 0) (take j rows) i)
@@ -97,50 +77,25 @@ ascend_tail k r rs up i j l h = up (suc i) (suc j) (omega arith) (omega arith)
 
 none_by : (k s : ℕ) (rows : List Row) → ((j : ℕ) → j < length rows → (get_or rows j blank).core ≡ k → s < (get_or rows j blank).end) → count_by (ends_by k s) rows ≡ 0
 none_by k s [] late = refl
-none_by k s (r ∷ rs) late = count_no (ends_by k s) r rs no ∙ none_by k s rs (λ j h. late (suc j) (omega arith))
-  where
-    no : ends_by k s r ≡ false
-    no = ⊎_elim (λ e. and_right _ _ (lt-leb _ _ (late 0 (omega arith) (eqb-true _ _ e)))) (λ e. and_left _ _ e) (cases_Bool (on k r))
+none_by k s (r ∷ rs) late = grind (arith, nat_tests, late 0, none_by k s rs (λ j h. late (suc j) (omega arith)), count_one (ends_by k s) r rs)
+
+-- where a row of core k ends late, no row after it ends by s
+none_after : (k s : ℕ) (r : Row) (rs : List Row) → Ascend k (r ∷ rs) → r.core ≡ k → s < r.end → count_by (ends_by k s) rs ≡ 0
+none_after k s r rs up c l = none_by k s rs (λ j h d. omega (arith, l, up 0 (suc j) (omega arith) (omega arith) c d))
 
 -- what ends by s is counted
 pub counted : (k s : ℕ) (rows : List Row) → Ascend k rows → (a : ℕ) → a < length rows → (get_or rows a blank).core ≡ k → (get_or rows a blank).end ≤ s → before k rows a < count_by (ends_by k s) rows
 counted k s [] up a h c l = absurd (omega arith)
-counted k s (r ∷ rs) up zero h c l = omega (arith, count_yes (ends_by k s) r rs (and_from _ _ (eq-eqb _ _ c) (le-leb _ _ l)))
-counted k s (r ∷ rs) up (suc a) h c l =
-    let ih = counted k s rs (ascend_tail k r rs up) a (omega arith) c l in
-    ⊎_elim
-    (λ e. omega (
-      arith,
-      ih,
-      count_yes (on k) r (take a rs) e,
-      count_yes (ends_by k s) r rs (and_from _ _ e (le-leb _ _ (omega (arith, up 0 (suc a) (omega arith) h (eqb-true _ _ e) c)))),
-    ))
-    (λ e. omega (arith, ih, count_no (on k) r (take a rs) e, count_no (ends_by k s) r rs (and_left _ _ e)))
-    (cases_Bool (on k r))
+counted k s (r ∷ rs) up zero h c l = grind (arith, nat_tests, count_one (ends_by k s) r rs)
+counted k s (r ∷ rs) up (suc a) h c l = grind (arith, nat_tests, counted k s rs (ascend_tail k r rs up) a, up 0 (suc a), count_one (on k) r (take a rs), count_one (ends_by k s) r rs)
 
 -- what is counted ends by s
 pub counts : (k s : ℕ) (rows : List Row) → Ascend k rows → (a : ℕ) → a < length rows → (get_or rows a blank).core ≡ k → before k rows a < count_by (ends_by k s) rows → (get_or rows a blank).end ≤ s
 counts k s [] up a h c l = absurd (omega arith)
-counts k s (r ∷ rs) up zero h c l = ⊎_elim (λ e. leb-true _ _ e)
-    (λ e. absurd (omega (arith, l, count_no (ends_by k s) r rs (and_right _ _ e), none_by k s rs (λ j q d. omega (arith, leb-false _ _ e, up 0 (suc j) (omega arith) (omega arith) c d)))))
-    (cases_Bool (leb r.end s))
-counts k s (r ∷ rs) up (suc a) h c l = ⊎_elim
-    (λ e. ⊎_elim
-    (λ y. counts k s rs (ascend_tail k r rs up) a (omega arith) c (omega (arith, l, count_yes (on k) r (take a rs) e, count_yes (ends_by k s) r rs (and_from _ _ e y))))
-    (λ y. absurd (omega (arith, l, count_no (ends_by k s) r rs (and_right _ _ y), none_by k s rs (λ j q d. omega (arith, leb-false _ _ y, up 0 (suc j) (omega arith) (omega arith) (eqb-true _ _ e) d)))))
-    (cases_Bool (leb r.end s)))
-    (λ e. counts k s rs (ascend_tail k r rs up) a (omega arith) c (omega (arith, l, count_no (on k) r (take a rs) e, count_no (ends_by k s) r rs (and_left _ _ e))))
-    (cases_Bool (on k r))
+counts k s (r ∷ rs) up zero h c l = grind (arith, nat_tests, none_after k s r rs up c, count_one (ends_by k s) r rs)
+counts k s (r ∷ rs) up (suc a) h c l = grind (arith, nat_tests, counts k s rs (ascend_tail k r rs up) a, none_after k s r rs up, count_one (on k) r (take a rs), count_one (ends_by k s) r rs)
 
 -- a wait counts no more than the tasks of its core
 pub wait_le : (k s : ℕ) (rows : List Row) → count_by (ends_by k s) rows ≤ tasks_on rows k
 wait_le k s [] = omega arith
-wait_le k s (r ∷ rs) =
-    let ih = wait_le k s rs in
-    ⊎_elim
-    (λ e. ⊎_elim
-    (λ y. omega (arith, ih, count_yes (on k) r rs e, count_yes (ends_by k s) r rs (and_from _ _ e y)))
-    (λ y. omega (arith, ih, count_yes (on k) r rs e, count_no (ends_by k s) r rs (and_right _ _ y)))
-    (cases_Bool (leb r.end s)))
-    (λ e. omega (arith, ih, count_no (on k) r rs e, count_no (ends_by k s) r rs (and_left _ _ e)))
-    (cases_Bool (on k r))
+wait_le k s (r ∷ rs) = grind (arith, nat_tests, wait_le k s rs, count_one (ends_by k s) r rs, count_one (on k) r rs)

@@ -1,8 +1,10 @@
 -- What the fact in a table says of its rows.
-use Rattle.std.proofs.Common.{◌≡◌, ℕ, zero, suc, ◌+◌, ◌^◌, ◌<◌, ◌≤◌, Bool, true, false, not, ◌&&◌, eqb, ltb, leb, ◌⊎◌, List, [], ◌∷◌, length, get_or, take, drop, is_some, Some, None, count_by, Option, sym, refl, ap, ◌∙◌, subst, inl, inr, ⊎_elim, arith}
-use Rattle.std.proofs.lemmas.Bool.{cases_Bool, cases_eq, cases_lt, ltb-true, leb-true, eqb-true, not-true, true≢false, and_parts, or_cases, cond-true, cond-false, eq-eqb, ne_eqb}
-use Rattle.std.proofs.lemmas.List.{get_or-take, get_or_past, length-take-le, drop_more, drop_all}
-use Rattle.std.proofs.lemmas.List.Sums.{count_by_more_yes, count_by_more_no, count_by-le-length}
+use Rattle.std.proofs.Common.{◌≡◌, ℕ, zero, suc, ◌+◌, ◌<◌, ◌≤◌, Bool, true, false, not, ◌&&◌, eqb, leb, ◌⊎◌, List, [], ◌∷◌, length, get_or, drop, is_some, Some, None, Option, sym, refl, ap, ◌∙◌, subst, inl, inr, ⊎_elim, arith}
+use Rattle.std.proofs.lemmas.Bool.{cases_Bool, cases_lt, leb-true, eqb-true, not-true, and_parts, or_cases}
+use Rattle.std.proofs.lemmas.List.{get_or_past, length-take-le}
+use Rattle.std.proofs.lemmas.List.Sums.{count_by-le-length}
+use Rattle.std.specs.List.{range_with_len, slice_get, filter}
+use Rattle.std.proofs.lemmas.Bool.Decides.{nat_tests}
 use Rattle.table.specs.Rows.{Plan, nothing, blank, row, on, named, nth_on, tasks_on}
 use Rattle.table.specs.Lawful.{RowFits, Fits, EmptyOrLawful}
 use Rattle.table.specs.Questions.{rows_fault}
@@ -16,12 +18,7 @@ use Rattle.table.proofs.Verdict.{lawful_from}
 
 -- the widths of one row, of all rows, of a plan
 row_widths : (r : Row) → row_fits r ≡ true → RowFits r
-row_widths r h =
-    let a = and_parts (ltb r.core (2 ^ 3)) _ h in
-    let b = and_parts (ltb r.start (2 ^ 28)) _ a.1 in
-    let c = and_parts (ltb r.end (2 ^ 28)) _ b.1 in
-    let d = and_parts (ltb r.claim (2 ^ 21)) (ltb r.inputs.bits (2 ^ 8)) c.1 in
-    record { core = ltb-true _ _ a.0; start = ltb-true _ _ b.0; end = ltb-true _ _ c.0; claim = ltb-true _ _ d.0; inputs = ltb-true _ _ d.1 }
+row_widths r h = grind (arith, nat_tests)
 
 rows_widths : (rows : List Row) → rows_fit rows ≡ true → (t : ℕ) → t < length rows → RowFits (get_or rows t blank)
 rows_widths [] h t l = absurd (omega arith)
@@ -30,23 +27,18 @@ rows_widths (r ∷ rs) h (suc t) l = rows_widths rs (and_parts (row_fits r) (row
 
 pub plan_widths : (p : Plan) → plan_fits p ≡ true → Fits p
 plan_widths p h =
-    let a = and_parts (leb 1 p.cores) _ h in
-    let b = and_parts (leb p.cores 8) _ a.1 in
-    let c = and_parts (leb 1 (length p.rows)) _ b.1 in
-    let d = and_parts (leb (length p.rows) 384) _ c.1 in
-    let e = and_parts (ltb p.ticks (2 ^ 28)) (rows_fit p.rows) d.1 in
+    let rows : rows_fit p.rows ≡ true = grind (arith, nat_tests) in
     record {
-      some_core = leb-true _ _ a.0;
-      few_cores = leb-true _ _ b.0;
-      some_task = leb-true _ _ c.0;
-      few_tasks = leb-true _ _ d.0;
-      ticks = ltb-true _ _ e.0;
-      each = rows_widths p.rows e.1;
+      some_core = grind (arith, nat_tests);
+      few_cores = grind (arith, nat_tests);
+      some_task = grind (arith, nat_tests);
+      few_tasks = grind (arith, nat_tests);
+      ticks = grind (arith, nat_tests);
+      each = rows_widths p.rows rows;
     }
 
 none_is : (o : Option Fault) → is_some o ≡ false → o ≡ None
-none_is None h = refl
-none_is (Some f) h = absurd (true≢false h)
+none_is o h = grind arith
 
 -- what the test of a table's fields says
 pub record Sound (cores tasks ticks : ℕ) (rows : List Row) : Type 0 where
@@ -68,8 +60,8 @@ sound_parts cores tasks ticks rows h =
           (or_cases (is_nothing cores tasks ticks) (is_lawful (plan_from cores tasks ticks rows)) a.1);
     }
 
-parts : (t : Table) → Sound t.cores t.tasks t.ticks t.rows
-parts t = sound_parts t.cores t.tasks t.ticks t.rows t.ok
+parts : (t : Table) → Sound t.header.cores t.header.tasks t.header.ticks t.rows
+parts t = sound_parts t.header.cores t.header.tasks t.header.ticks t.rows t.ok
 
 -- every table value is empty or lawful
 pub table_sound : (t : Table) → EmptyOrLawful (plan_of t)
@@ -93,70 +85,45 @@ soon t n = of_plan t (λ (p : Plan). (row p n).start < 268435456) (omega arith) 
 pub core_below : (t : Table) (n : ℕ) → (row (plan_of t) n).core < 8
 core_below t n = of_plan t (λ (p : Plan). (row p n).core < 8) (omega arith) (λ f. of_row (plan_of t).rows (λ (r : Row). r.core < 8) (omega arith) (λ u l. (f.each u l).core) n)
 
-pub few_cores : (t : Table) → t.cores ≤ 8
+pub few_cores : (t : Table) → (plan_of t).cores ≤ 8
 few_cores t = of_plan t (λ (p : Plan). p.cores ≤ 8) (omega arith) (λ f. f.few_cores)
 
-pub few_ticks : (t : Table) → t.ticks < 268435456
+pub few_ticks : (t : Table) → (plan_of t).ticks < 268435456
 few_ticks t = of_plan t (λ (p : Plan). p.ticks < 268435456) (omega arith) (λ f. f.ticks)
 
 pub few_rows : (t : Table) → length (plan_of t).rows ≤ 384
 few_rows t = of_plan t (λ (p : Plan). length p.rows ≤ 384) (omega arith) (λ f. f.few_tasks)
 
-pub enough_rows : (t : Table) → t.tasks ≤ length t.rows
-enough_rows t = (parts t).enough
+pub count_rows : (t : Table) → length (plan_of t).rows ≡ t.header.tasks
+count_rows t = length-take-le t.header.tasks t.rows (parts t).enough
 
-pub count_rows : (t : Table) → length (plan_of t).rows ≡ t.tasks
-count_rows t = length-take-le t.tasks t.rows (parts t).enough
-
-pub few_tasks : (t : Table) → t.tasks ≤ 384
+pub few_tasks : (t : Table) → t.header.tasks ≤ 384
 few_tasks t = omega (arith, few_rows t, count_rows t)
 
 pub few_on : (t : Table) (k : ℕ) → tasks_on (plan_of t).rows k ≤ 384
 few_on t k = omega (arith, few_rows t, count_by-le-length (on k) (plan_of t).rows)
 
--- the search for a place, one row on
-place_hit : (k i : ℕ) (r : Row) (rs : List Row) → r.core ≡ k → nth_on k 0 i (r ∷ rs) ≡ i
-place_hit k i r rs e = cond-true (eqb r.core k) _ _ (eq-eqb _ _ e)
-
-place_pass : (k n i : ℕ) (r : Row) (rs : List Row) → r.core ≡ k → nth_on k (suc n) i (r ∷ rs) ≡ nth_on k n (suc i) rs
-place_pass k n i r rs e = cond-true (eqb r.core k) _ _ (eq-eqb _ _ e)
-
-place_miss : (k n i : ℕ) (r : Row) (rs : List Row) → (r.core ≡ k → ⊥) → nth_on k n i (r ∷ rs) ≡ nth_on k n (suc i) rs
-place_miss k zero i r rs e = cond-false (eqb r.core k) _ _ (ne_eqb _ _ e)
-place_miss k (suc n) i r rs e = cond-false (eqb r.core k) _ _ (ne_eqb _ _ e)
-
-module _ (k i tasks : ℕ) (all : List Row) (l : i < tasks) (m : tasks ≤ length all) where
-  within : i < length (take tasks all)
-  within = omega (arith, l, length-take-le tasks all m)
-
-  same : get_or (take tasks all) i blank ≡ get_or all i blank
-  same = get_or-take tasks all i blank l
-
-  pub found : (get_or all i blank).core ≡ k → nth_on k 0 i (drop i (take tasks all)) ≡ i
-  found e = ap (nth_on k 0 i) (drop_more (take tasks all) i blank within) ∙ place_hit k i (get_or (take tasks all) i blank) _ (ap (λ r. r.core) same ∙ e)
-
-  pub passes : (n : ℕ) → (get_or all i blank).core ≡ k → nth_on k (suc n) i (drop i (take tasks all)) ≡ nth_on k n (i + 1) (drop (i + 1) (take tasks all))
-  passes n e = ap (nth_on k (suc n) i) (drop_more (take tasks all) i blank within) ∙ (place_pass k n i (get_or (take tasks all) i blank) _ (ap (λ r. r.core) same ∙ e) ∙ ap (λ x. nth_on k n x (drop (i + 1) (take tasks all))) (omega arith))
-
-  pub misses : (n : ℕ) → ((get_or all i blank).core ≡ k → ⊥) → nth_on k n i (drop i (take tasks all)) ≡ nth_on k n (i + 1) (drop (i + 1) (take tasks all))
-  misses n e = ap (nth_on k n i) (drop_more (take tasks all) i blank within) ∙ (place_miss k n i (get_or (take tasks all) i blank) _ (λ x. e (ap (λ r. r.core) (sym same) ∙ x)) ∙ ap (λ x. nth_on k n x (drop (i + 1) (take tasks all))) (omega arith))
-
-pub no_more : (k n i : ℕ) (rows : List Row) → length rows ≤ i → nth_on k n i (drop i rows) ≡ 511
-no_more k n i rows h = ap (nth_on k n i) (drop_all i rows h) ∙ none n
-  where
-    none : (m : ℕ) → nth_on k m i [] ≡ 511
-    none zero = refl
-    none (suc m) = refl
-
 -- a number below 511 names a task, and none but that
 pub named_small : (t : ℕ) → t < 511 → named t ≡ Some t
-named_small t l = cond-false (eqb t 511) None (Some t) (ne_eqb t 511 (omega arith))
+named_small t l = grind (arith, nat_tests)
 
 pub named_some : (n t : ℕ) → named n ≡ Some t → n ≡ t
-named_some n t h = ⊎_elim
-    (λ e. let g : None ≡ Some t = sym (cond-true (eqb n 511) None (Some n) (eq-eqb n 511 e)) ∙ h in let z : ◌≡◌ {A = ℕ} 0 1 = cc in absurd (omega arith))
-    (λ e. let g : Some n ≡ Some t = sym (cond-false (eqb n 511) None (Some n) (ne_eqb n 511 e)) ∙ h in cc)
-    (cases_eq n 511)
+named_some n t h = grind (arith, nat_tests)
+
+-- the task at a place of core k is the one there among the numbers of the rows that lie on it: one row further left, and for all rows
+nth_step : (k n i : ℕ) (r : Row) (rs : List Row) (test : ℕ → Bool) → test i ≡ on k r → i < 511 → ((m : ℕ) → slice_get (filter test (range_with_len (i + 1) (length rs))) m ≡ named (nth_on k m (suc i) rs)) →
+    slice_get (filter test (range_with_len i (suc (length rs)))) n ≡ named (nth_on k n i (r ∷ rs))
+nth_step k n i r rs test here l next = grind (arith, nat_tests)
+
+pub nth_named : (k n i : ℕ) (rows : List Row) (test : ℕ → Bool) → ((a : ℕ) → a < length rows → test (i + a) ≡ on k (get_or rows a blank)) → ((a : ℕ) → a < length rows → i + a < 511) → slice_get (filter test (range_with_len i (length rows))) n ≡ named (nth_on k n i rows)
+nth_named k zero i [] test at l = refl
+nth_named k (suc n) i [] test at l = refl
+nth_named k n i (r ∷ rs) test at l =
+    let z : i ≡ i + 0 = omega arith in
+    let s : i + 1 ≡ suc i = omega arith in
+    let on_rest : (a : ℕ) → a < length rs → test (suc i + a) ≡ on k (get_or rs a blank) = λ a q. let t : suc i + a ≡ i + suc a = omega arith in ap test t ∙ at (suc a) (omega arith) in
+    nth_step k n i r rs test (ap test z ∙ at 0 (omega arith)) (omega (arith, l 0 (omega arith)))
+    (λ m. ap (λ j. slice_get (filter test (range_with_len j (length rs))) m) s ∙ nth_named k m (suc i) rs test on_rest (λ a q. omega (arith, l (suc a) (omega arith))))
 
 -- a place that is taken names a row
 pub nth_within : (k n : ℕ) (rows : List Row) → n < tasks_on rows k → nth_on k n 0 rows < length rows
@@ -170,19 +137,11 @@ pub no_task_at : (t : Table) (k n : ℕ) → tasks_on (plan_of t).rows k ≤ n �
 no_task_at t k n l = ap named (nth_none k n 0 (plan_of t).rows l)
 
 -- no task lies on a core that the table lacks
-pub off_table : (t : Table) (k : ℕ) → t.cores ≤ k → tasks_on (plan_of t).rows k ≡ 0
+pub off_table : (t : Table) (k : ℕ) → (plan_of t).cores ≤ k → tasks_on (plan_of t).rows k ≡ 0
 off_table t k l = none_on k (plan_of t).rows (⊎_elim
     (λ e. λ u m _. let n : length (plan_of t).rows ≡ 0 = ap (λ (p : Plan). length p.rows) e in omega (arith, m, n))
     (λ h. λ u m x. omega (arith, h.1.on_a_core u m, x, l))
     (table_sound t))
-
--- a count of rows, one row on
-module _ (p : Row → Bool) (rows : List Row) (i j n : ℕ) (l : i < length rows) (e : j ≡ i) (s : n ≡ count_by p (take i rows)) where
-  pub count_yes : p (get_or rows j blank) ≡ true → n + 1 ≡ count_by p (take (i + 1) rows)
-  count_yes h = omega (arith, s, count_by_more_yes p rows i blank l (ap (λ k. p (get_or rows k blank)) (sym e) ∙ h))
-
-  pub count_no : p (get_or rows j blank) ≡ false → n ≡ count_by p (take (i + 1) rows)
-  count_no h = omega (arith, s, count_by_more_no p rows i blank l (ap (λ k. p (get_or rows k blank)) (sym e) ∙ h))
 
 -- the next place is the first after this one
 record Then (k n i : ℕ) (rows : List Row) : Type 0 where
@@ -199,13 +158,12 @@ then_back k n m i r rs a b f =
 then_at : (k n i : ℕ) (rows : List Row) → n < tasks_on rows k → Then k n i rows
 then_at k n i [] h = absurd (omega arith)
 then_at k zero i (r ∷ rs) h = ⊎_elim
-    (λ e. let j : suc i ≡ i + 1 = omega arith in
-    record { at = 0; is = cond-true (on k r) _ _ e ∙ omega arith; next = cond-true (on k r) _ _ e ∙ ap (λ x. nth_on k 0 x rs) j })
-    (λ e. then_back k 0 0 i r rs (cond-false (on k r) _ _ e) (cond-false (on k r) _ _ e) (then_at k zero (suc i) rs (omega (arith, count_out (on k) r rs e))))
+    (λ e. record { at = 0; is = grind (arith, nat_tests); next = grind (arith, nat_tests) })
+    (λ e. then_back k 0 0 i r rs (grind (arith, nat_tests)) (grind (arith, nat_tests)) (then_at k zero (suc i) rs (omega (arith, count_out (on k) r rs e))))
     (cases_Bool (on k r))
 then_at k (suc n) i (r ∷ rs) h = ⊎_elim
-    (λ e. then_back k (suc n) n i r rs (cond-true (on k r) _ _ e) (cond-true (on k r) _ _ e) (then_at k n (suc i) rs (omega (arith, count_in (on k) r rs e))))
-    (λ e. then_back k (suc n) (suc n) i r rs (cond-false (on k r) _ _ e) (cond-false (on k r) _ _ e) (then_at k (suc n) (suc i) rs (omega (arith, count_out (on k) r rs e))))
+    (λ e. then_back k (suc n) n i r rs (grind (arith, nat_tests)) (grind (arith, nat_tests)) (then_at k n (suc i) rs (omega (arith, count_in (on k) r rs e))))
+    (λ e. then_back k (suc n) (suc n) i r rs (grind (arith, nat_tests)) (grind (arith, nat_tests)) (then_at k (suc n) (suc i) rs (omega (arith, count_out (on k) r rs e))))
     (cases_Bool (on k r))
 
 pub after_nth : (k n : ℕ) (rows : List Row) → n < tasks_on rows k → nth_on k (n + 1) 0 rows ≡ nth_on k 0 (nth_on k n 0 rows + 1) (drop (nth_on k n 0 rows + 1) rows)
@@ -219,7 +177,7 @@ after_nth k n rows h =
 -- the task after the one at a place
 pub taken_place : (t : Table) (k n u : ℕ) → named (nth_on k n 0 (plan_of t).rows) ≡ Some u → n < tasks_on (plan_of t).rows k
 taken_place t k n u h = ⊎_elim (λ l. l)
-    (λ l. let g : None ≡ Some u = sym (no_task_at t k n l) ∙ h in let z : ◌≡◌ {A = ℕ} 0 1 = cc in absurd (omega arith))
+    (λ l. let g : None ≡ Some u = sym (no_task_at t k n l) ∙ h in cc)
     (cases_lt n (tasks_on (plan_of t).rows k))
 
 pub after_task : (t : Table) (k n u : ℕ) → named (nth_on k n 0 (plan_of t).rows) ≡ Some u → nth_on k 0 (u + 1) (drop (u + 1) (plan_of t).rows) ≡ nth_on k (suc n) 0 (plan_of t).rows
@@ -230,7 +188,7 @@ after_task t k n u h =
 
 pub after_none : (t : Table) (k n : ℕ) → named (nth_on k n 0 (plan_of t).rows) ≡ None → named (nth_on k (suc n) 0 (plan_of t).rows) ≡ None
 after_none t k n h = ⊎_elim
-    (λ l. let g : Some (nth_on k n 0 (plan_of t).rows) ≡ None = sym (task_at t k n l) ∙ h in let z : ◌≡◌ {A = ℕ} 0 1 = cc in absurd (omega arith))
+    (λ l. let g : Some (nth_on k n 0 (plan_of t).rows) ≡ None = sym (task_at t k n l) ∙ h in cc)
     (λ l. no_task_at t k (suc n) (omega arith))
     (cases_lt n (tasks_on (plan_of t).rows k))
 

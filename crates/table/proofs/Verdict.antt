@@ -1,8 +1,8 @@
 -- The rows of a plan pass every question exactly when the plan is lawful.
-use Rattle.std.proofs.Common.{◌≡◌, ℕ, zero, suc, ◌+◌, ◌/◌, ◌%◌, ◌^◌, ◌<◌, ◌≤◌, Bool, true, false, cond, not, ◌&&◌, ltb, leb, List, [], ◌∷◌, ◌++◌, length, get_or, take, Some, None, Option, sym, refl, ap, ◌∙◌, subst, ⊎_elim, arith, pow_mono}
-use native.Mathlib.Nat.{div-eq_of_lt}
+use Rattle.std.proofs.Common.{◌≡◌, ℕ, zero, suc, ◌+◌, ◌^◌, ◌<◌, ◌≤◌, Bool, true, false, cond, not, ltb, leb, List, [], ◌∷◌, ◌++◌, length, get_or, take, Some, None, Option, sym, refl, ap, ◌∙◌, subst, ⊎_elim, arith}
 use Rattle.std.proofs.lemmas.List.{get_or-take, length-take-le, take_more}
-use Rattle.std.proofs.lemmas.Bool.{cases_Bool, cases_lt, cases_eq, eqb-true, eqb-false, eq-eqb, ne_eqb, ltb-true, lt-ltb, leb-true, le-leb, not-true, not-false, not_from_true, not_from_false, and_parts, and_from, or_cases, or_left, or_right, cond-true, cond-false, both_ways}
+use Rattle.std.proofs.lemmas.Bool.{cases_Bool, cases_lt, cases_eq, eqb-true, eqb-false, ne_eqb, ltb-true, lt-ltb, leb-true, not-true, not-false, not_from_true, not_from_false, and_parts, and_from, or_cases, or_left, or_right, cond-true, cond-false, both_ways}
+use Rattle.std.proofs.lemmas.Bool.Decides.{nat_tests}
 use Rattle.table.specs.Below.{all_below}
 use Rattle.table.specs.Sets.{has}
 use Rattle.table.specs.Rows.{Plan, row, blank, on, ends_by, kept_end, last_end}
@@ -12,22 +12,17 @@ use Rattle.table.specs.declared.rows.CoreSet.{CoreSet}
 use Rattle.table.specs.declared.rows.Row.{Row}
 use Rattle.table.specs.declared.faults.Fault.{Fault}
 use Rattle.table.proofs.Below.{all_at, all_from}
-
-pub never : (f : Fault) → Some f ≡ None → ⊥
-never f h = let z : ◌≡◌ {A = ℕ} 0 1 = cc in omega arith
+use Rattle.table.proofs.Sets.{has_past}
 
 -- a question that finds no fault
 pub passed : (b : Bool) (f : Fault) (o : Option Fault) → cond b (Some f) o ≡ None → (b ≡ false) × (o ≡ None)
-passed true f o h = absurd (never f h)
-passed false f o h = (refl, h)
+passed b f o h = grind arith
 
 pub neither : (a b : Option Fault) → or_else a b ≡ None → (a ≡ None) × (b ≡ None)
-neither (Some f) b h = absurd (never f h)
-neither None b h = (refl, h)
+neither a b h = grind arith
 
 pub none_else : (a b : Option Fault) → a ≡ None → or_else a b ≡ b
-none_else (Some f) b h = absurd (never f h)
-none_else None b h = refl
+none_else a b h = grind arith
 
 -- a question that finds no fault finds none at any row, and the other way round
 no_fault_at : (ask : ℕ → Option Fault) (t n : ℕ) → first_fault ask t n ≡ None → (i : ℕ) → t ≤ i → i < t + n → ask i ≡ None
@@ -48,32 +43,20 @@ record Placed (p : Plan) (t : ℕ) : Type 0 where
   after : last_end (row p t).core (take t p.rows) ≤ (row p t).start
 
 placed : (p : Plan) (t : ℕ) → place_fault p t ≡ None → Placed p t
-placed p t h =
-    let r = row p t in
-    let a = passed (not (ltb r.core p.cores)) _ _ h in
-    let b = passed (not (ltb r.start r.end && leb r.end p.ticks)) _ _ a.1 in
-    let c = passed (not (leb (last_end r.core (take t p.rows)) r.start)) _ _ b.1 in
-    let d = and_parts (ltb r.start r.end) (leb r.end p.ticks) (not-false _ b.0) in
-    record { core = ltb-true _ _ (not-false _ a.0); forward = ltb-true _ _ d.0; in_frame = leb-true _ _ d.1; after = leb-true _ _ (not-false _ c.0) }
+placed p t h = record { core = grind (arith, nat_tests); forward = grind (arith, nat_tests); in_frame = grind (arith, nat_tests); after = grind (arith, nat_tests) }
 
 unplaced : (p : Plan) (t : ℕ) → Placed p t → place_fault p t ≡ None
-unplaced p t h =
-    cond-false _ _ _ (not_from_true _ (lt-ltb _ _ h.core))
-    ∙ (cond-false _ _ _ (not_from_true _ (and_from _ _ (lt-ltb _ _ h.forward) (le-leb _ _ h.in_frame)))
-    ∙ cond-false _ _ _ (not_from_true _ (le-leb _ _ h.after)))
+unplaced p t h = grind (arith, nat_tests)
 
 -- what is kept for core k, one row on
-pub kept_push : (keep : ℕ → ℕ → ℕ) (k : ℕ) (rows : List Row) (x : Row) (sofar : ℕ) → kept_end keep k (rows ++ (x ∷ [])) sofar ≡ cond (on k x) (keep x.end (kept_end keep k rows sofar)) (kept_end keep k rows sofar)
+pub kept_push : {X : Type 0} (keep : ℕ → X → X) (k : ℕ) (rows : List Row) (x : Row) (sofar : X) → kept_end keep k (rows ++ (x ∷ [])) sofar ≡ cond (on k x) (keep x.end (kept_end keep k rows sofar)) (kept_end keep k rows sofar)
 kept_push keep k [] x sofar = refl
 kept_push keep k (r ∷ rs) x sofar = kept_push keep k rs x (cond (on k r) (keep r.end sofar) sofar)
 
 -- if no row of core k ends after m, neither does the last
 last_bound : (k m : ℕ) (rows : List Row) (sofar : ℕ) → sofar ≤ m → ((a : ℕ) → a < length rows → (get_or rows a blank).core ≡ k → (get_or rows a blank).end ≤ m) → kept_end (λ new old. new) k rows sofar ≤ m
 last_bound k m [] sofar l h = l
-last_bound k m (r ∷ rs) sofar l h = ⊎_elim
-    (λ e. subst (λ s. kept_end (λ new old. new) k rs s ≤ m) (sym (cond-true (on k r) r.end sofar e)) (last_bound k m rs r.end (h 0 (omega arith) (eqb-true _ _ e)) (λ a q. h (suc a) (omega arith))))
-    (λ e. subst (λ s. kept_end (λ new old. new) k rs s ≤ m) (sym (cond-false (on k r) r.end sofar e)) (last_bound k m rs sofar l (λ a q. h (suc a) (omega arith))))
-    (cases_Bool (on k r))
+last_bound k m (r ∷ rs) sofar l h = last_bound k m rs (cond (on k r) r.end sofar) (grind (arith, nat_tests, h 0)) (λ a q. h (suc a) (omega arith))
 
 -- no row of core k before row t ends after the last of them
 module _ (p : Plan) (places : (t : ℕ) → t < length p.rows → Placed p t) where
@@ -103,13 +86,7 @@ module _ (p : Plan) (places : (t : ℕ) → t < length p.rows → Placed p t) wh
 
 -- a member of a set of cores is below 8
 pub has_below : (s : CoreSet) (k : ℕ) → s.bits < 2 ^ 8 → has s k ≡ true → k < 8
-has_below s k l h = ⊎_elim (λ q. q)
-    (λ q. let big : 2 ^ 8 ≤ 2 ^ k = pow_mono q in
-    let small : s.bits < 2 ^ k = omega arith in
-    let z : s.bits / 2 ^ k ≡ 0 = div-eq_of_lt small in
-    let o : s.bits / 2 ^ k % 2 ≡ 1 = eqb-true _ _ h in
-    absurd (omega (arith, z, o)))
-    (cases_lt k 8)
+has_below s k l h = ⊎_elim (λ q. q) (λ q. absurd (both_ways (has s k) (has_past s k l q) h)) (cases_lt k 8)
 
 found_by : (k time : ℕ) (p : Plan) (i : ℕ) (rows : List Row) → ((a : ℕ) → a < length rows → (i + a < length p.rows) × (row p (i + a) ≡ get_or rows a blank)) → some_ends_by k time rows ≡ true → EndsBy p k time
 found_by k time p i [] at h = absurd (both_ways false refl h)
@@ -123,8 +100,8 @@ found_by k time p i (r ∷ rs) at h = ⊎_elim
 
 found_at : (k time : ℕ) (rows : List Row) (a : ℕ) → a < length rows → (get_or rows a blank).core ≡ k → (get_or rows a blank).end ≤ time → some_ends_by k time rows ≡ true
 found_at k time [] a l c e = absurd (omega arith)
-found_at k time (r ∷ rs) zero l c e = or_left _ _ (and_from _ _ (eq-eqb _ _ c) (le-leb _ _ e))
-found_at k time (r ∷ rs) (suc a) l c e = or_right (ends_by k time r) _ (found_at k time rs a (omega arith) c e)
+found_at k time (r ∷ rs) zero l c e = grind (arith, nat_tests)
+found_at k time (r ∷ rs) (suc a) l c e = grind (arith, nat_tests, found_at k time rs a)
 
 writes : (p : Plan) (r : Row) (k : ℕ) → input_ok p r k ≡ true → has r.inputs k ≡ true → Writes p r k
 writes p r k h m = ⊎_elim

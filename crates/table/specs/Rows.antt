@@ -49,8 +49,8 @@ nth_on k n i [] = no_task
 nth_on k zero i (r ∷ rs) = cond (on k r) i (nth_on k zero (suc i) rs)
 nth_on k (suc n) i (r ∷ rs) = cond (on k r) (nth_on k n (suc i) rs) (nth_on k (suc n) (suc i) rs)
 
--- a number kept for core k along the rows: `keep` makes it anew from the end of each row on that core and the number before
-abbrev pub kept_end : (ℕ → ℕ → ℕ) → ℕ → List Row → ℕ → ℕ
+-- what is kept for core k along the rows: `keep` makes it anew from the end of each row on that core and what was kept before
+abbrev pub kept_end : {X : Type 0} → (ℕ → X → X) → ℕ → List Row → X → X
 kept_end keep k [] sofar = sofar
 kept_end keep k (r ∷ rs) sofar = kept_end keep k rs (cond (on k r) (keep r.end sofar) sofar)
 

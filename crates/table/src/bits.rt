@@ -10,7 +10,9 @@ fn bit_at(bytes: &[u8], at: usize) -> u8
     (bytes[at / 8] >> (7 - at % 8)) % 2
 }
 
-// The number in the `width` bits of the bytes from bit `at` on.
+// The number in the `width` bits of the bytes from bit `at` on, which a type of so many bits holds.
+// A loop: the closure of a fold would have to be told again that the number so far is small enough to double.
+#[tactic(auto, unfolding(crate::specs::Bits::field))]
 pub(crate) fn read_field(bytes: &[u8], at: usize, width: usize) -> u32
     requires near { at < 65536 }
     requires narrow { width ≤ 28 }

@@ -1,6 +1,7 @@
 ghost use Rattle.std.specs.Prelude.{◌≡◌, Some};
 ghost use Rattle.table.specs.Faults.{number_of, row_of, offset_of, reason_of, line_of};
 
+use std::error::Error;
 use std::fmt;
 
 // Why bytes are no table. A fault of a row carries the row's number.
@@ -95,3 +96,5 @@ impl fmt::Display for Fault {
         }
     }
 }
+
+impl Error for Fault {}

@@ -3,6 +3,7 @@
 
 mod bits;
 pub mod faults;
+mod form;
 pub mod lawful;
 mod layout;
 pub mod loading;

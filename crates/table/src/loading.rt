@@ -6,7 +6,7 @@ ghost use Rattle.table.specs.View.{plan_of, Read};
 
 use crate::faults::Fault;
 use crate::lawful::Table;
-use crate::layout::read_rows;
+use crate::layout::Header;
 use crate::questions::checked;
 use crate::rows::Row;
 
@@ -14,8 +14,8 @@ use crate::rows::Row;
 pub fn check(bytes: &[u8]) -> Result<u16, Fault>
     ensures { result ≡ answered (loaded bytes.now) }
 {
-    let header = checked(bytes)?;
-    Ok(header.tasks)
+    let form = checked(bytes)?;
+    Ok(form.header.tasks)
 }
 
 // The table that the bytes hold.
@@ -24,25 +24,25 @@ fn read_table(bytes: &[u8]) -> Result<Table, Fault>
     ensures exactly { AcceptsExactlyTheLawful bytes.now }
     ensures every { AcceptsEveryLawfulTable }
 {
-    let header = checked(bytes)?;
-    let rows = read_rows(bytes, header.tasks);
+    let form = checked(bytes)?;
     Ok(Table {
-        cores: header.cores,
-        tasks: header.tasks,
-        ticks: header.ticks,
-        rows,
+        header: form.header,
+        rows: form.rows(),
     })
 }
 
 impl Table {
     // An empty table: no core, no task.
+    #[tactic(auto, unfolding(crate::specs::Sound::sound))]
     pub fn new() -> Table
         ensures { plan_of result ≡ nothing }
     {
         Table {
-            cores: 0,
-            tasks: 0,
-            ticks: 0,
+            header: Header {
+                cores: 0,
+                tasks: 0,
+                ticks: 0,
+            },
             rows: [Row::BLANK; 384],
         }
     }
@@ -57,6 +57,6 @@ impl Table {
     {
         let table = read_table(bytes)?;
         *self = table;
-        Ok(table.tasks)
+        Ok(table.header.tasks)
     }
 }

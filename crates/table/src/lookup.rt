@@ -1,47 +1,19 @@
 ghost use Rattle.std.specs.Prelude.{◌≡◌, ◌<◌, ◌≤◌, length, take, drop, count_by};
-ghost use Rattle.table.specs.Rows.{named, on, ends_by, nth_on, row, tasks_on, wait};
+ghost use Rattle.table.specs.Rows.{named, ends_by, nth_on, row, tasks_on, wait};
 ghost use Rattle.table.specs.Lawful.{EmptyOrLawful};
 ghost use Rattle.table.specs.View.{plan_of};
 
 use crate::lawful::Table;
 use crate::rows::Row;
 
-// Does the row lie on the core?
-fn lies_on(row: Row, core: u32) -> bool
-    ensures { result ≡ on core row }
-{
-    u32::from(row.core) == core
-}
-
-// Does the row lie on the core and end by the time?
-fn ends_by(row: Row, core: u32, time: u32) -> bool
-    ensures { result ≡ ends_by core time row }
-{
-    lies_on(row, core) && row.end <= time
-}
-
-// How many of the rows lie on the core.
-fn count_on(rows: &[Row], core: u32) -> u16
-    requires { length rows.now ≤ 384 }
-    ensures is { result ≡ tasks_on rows.now core }
-{
-    let mut count = 0;
-    for row in rows {
-        if lies_on(*row, core) {
-            count += 1;
-        }
-    }
-    count
-}
-
-// How many of the rows lie on the core and end by the time.
+// How many of the rows lie on the core and end by the time: a loop over the rows, a form that the project asks for.
 fn count_ended_by(rows: &[Row], core: u32, time: u32) -> u16
     requires { length rows.now ≤ 384 }
     ensures is { result ≡ count_by (ends_by core time) rows.now }
 {
     let mut count = 0;
     for row in rows {
-        if ends_by(*row, core, time) {
+        if row.ends_by(core, time) {
             count += 1;
         }
     }
@@ -55,7 +27,7 @@ impl Table {
         ensures few { result ≤ 8 }
         ensures lawful { EmptyOrLawful (plan_of self.now) }
     {
-        self.cores
+        self.header.cores
     }
 
     // The number of tasks, 0 of an empty table.
@@ -63,7 +35,7 @@ impl Table {
         ensures is { result ≡ length (plan_of self.now).rows }
         ensures few { result ≤ 384 }
     {
-        self.tasks
+        self.header.tasks
     }
 
     // The length of the frame in ticks.
@@ -71,7 +43,15 @@ impl Table {
         ensures is { result ≡ (plan_of self.now).ticks }
         ensures small { result < 268435456 }
     {
-        self.ticks
+        self.header.ticks
+    }
+
+    // The rows of the tasks.
+    fn rows(&self) -> &[Row]
+        ensures is { result.now ≡ (plan_of self.now).rows }
+        ensures few { length result.now ≤ 384 }
+    {
+        &self.rows[..usize::from(self.header.tasks)]
     }
 
     // The row of the task; a blank one if there is no such task.
@@ -80,11 +60,10 @@ impl Table {
         ensures soon { result.start < 268435456 }
         ensures small { result.claim < 2097152 }
     {
-        if task < self.tasks {
-            self.rows[usize::from(task)]
-        } else {
-            Row::BLANK
-        }
+        self.rows()
+            .get(usize::from(task))
+            .copied()
+            .unwrap_or(Row::BLANK)
     }
 
     // How many tasks the core has.
@@ -92,8 +71,7 @@ impl Table {
         ensures is { result ≡ tasks_on (plan_of self.now).rows core }
         ensures few { result ≤ 384 }
     {
-        let rows = &self.rows[0..usize::from(self.tasks)];
-        count_on(rows, core)
+        self.rows().iter().filter(|row| row.lies_on(core)).count() as u16
     }
 
     // The place of the task on its core: how many tasks stand before it there.
@@ -102,36 +80,31 @@ impl Table {
         ensures few { result ≤ 384 }
     {
         let core = u32::from(self.row(task).core);
-        let rows = &self.rows[0..usize::from(task.min(self.tasks))];
-        count_on(rows, core)
+        let before = self.rows().iter().take(usize::from(task));
+        before.filter(|row| row.lies_on(core)).count() as u16
+    }
+
+    // The task at a place of the core among the tasks from `from` on, if there is one; places count from 0.
+    fn nth_from(&self, core: u32, nth: u16, from: u16) -> Option<u16>
+        ensures { result ≡ named (nth_on core nth from (drop from (plan_of self.now).rows)) }
+    {
+        (from..self.header.tasks)
+            .filter(|task| self.row(*task).lies_on(core))
+            .nth(usize::from(nth))
     }
 
     // The task at a place of the core, if there is one; places count from 0.
     pub fn nth_on(&self, core: u32, nth: u16) -> Option<u16>
         ensures { result ≡ named (nth_on core nth 0 (plan_of self.now).rows) }
     {
-        let mut left = nth;
-        for t in 0..self.tasks {
-            if lies_on(self.rows[usize::from(t)], core) {
-                if left == 0 {
-                    return Some(t);
-                }
-                left -= 1;
-            }
-        }
-        None
+        self.nth_from(core, nth, 0)
     }
 
     // The first task of the core from task `from` on, if there is one.
     pub fn first_on(&self, core: u32, from: u16) -> Option<u16>
         ensures { result ≡ named (nth_on core 0 from (drop from (plan_of self.now).rows)) }
     {
-        for t in from..self.tasks {
-            if lies_on(self.rows[usize::from(t)], core) {
-                return Some(t);
-            }
-        }
-        None
+        self.nth_from(core, 0, from)
     }
 
     // The wait of the task on the core: how many tasks of that core end at or before the task's start.
@@ -139,8 +112,6 @@ impl Table {
         ensures is { result ≡ wait (plan_of self.now).rows (row (plan_of self.now) task) core }
         ensures few { result ≤ 384 }
     {
-        let start = self.row(task).start;
-        let rows = &self.rows[0..usize::from(self.tasks)];
-        count_ended_by(rows, core, start)
+        count_ended_by(self.rows(), core, self.row(task).start)
     }
 }

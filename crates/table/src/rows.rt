@@ -1,6 +1,7 @@
 ghost use Rattle.std.specs.Prelude.{◌≡◌, not};
 ghost use Rattle.table.specs.Below.{any_below};
-ghost use Rattle.table.specs.Sets.{has, includes, less, none, with, without};
+ghost use Rattle.table.specs.Sets.{has, includes, less, with, without};
+ghost use Rattle.table.specs.Rows.{on, ends_by};
 
 // A set of cores: one bit for each of 8 cores, the least significant for core 0.
 #[derive(Clone, Copy, PartialEq, Eq, Debug)]
@@ -88,4 +89,18 @@ impl Row {
         claim: 0,
         inputs: CoreSet::NONE,
     };
+
+    // Does the row lie on the core?
+    pub(crate) fn lies_on(self, core: u32) -> bool
+        ensures { result ≡ on core self }
+    {
+        u32::from(self.core) == core
+    }
+
+    // Does the row lie on the core and end by the time?
+    pub(crate) fn ends_by(self, core: u32, time: u32) -> bool
+        ensures { result ≡ ends_by core time self }
+    {
+        self.lies_on(core) && self.end <= time
+    }
 }

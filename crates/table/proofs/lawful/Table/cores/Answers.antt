@@ -1,6 +1,8 @@
-use Rattle.std.proofs.Common.{refl}
-use Rattle.table.proofs.lawful.Table.cores.Goals as goal
 use Rattle.table.proofs.Tables.{few_cores, table_sound}
+use Rattle.table.proofs.lawful.Table.cores.Goals as goal
 
-pub returns : goal.returns
-returns c = record { is = refl; few = few_cores c.args.self.now; lawful = table_sound c.args.self.now }
+pub returns-clause-few : goal.returns-clause-few
+returns-clause-few c = few_cores c.args.self.now
+
+pub returns-clause-lawful : goal.returns-clause-lawful
+returns-clause-lawful c = table_sound c.args.self.now

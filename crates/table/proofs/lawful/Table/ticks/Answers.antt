@@ -1,6 +1,5 @@
-use Rattle.std.proofs.Common.{refl}
-use Rattle.table.proofs.lawful.Table.ticks.Goals as goal
 use Rattle.table.proofs.Tables.{few_ticks}
+use Rattle.table.proofs.lawful.Table.ticks.Goals as goal
 
-pub returns : goal.returns
-returns c = record { is = refl; small = few_ticks c.args.self.now }
+pub returns-clause-small : goal.returns-clause-small
+returns-clause-small c = few_ticks c.args.self.now

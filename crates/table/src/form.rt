@@ -1,0 +1,56 @@
+ghost use Rattle.std.specs.Prelude.{◌≡◌, ◌<◌, length, take};
+ghost use Rattle.table.specs.Layout.{row_at, rows_of};
+ghost use Rattle.table.specs.Lawful.{RowFits};
+ghost use Rattle.table.specs.Reading.{Heads};
+
+use crate::bits::read_field;
+use crate::layout::Header;
+use crate::rows::{CoreSet, Row};
+use std::array;
+
+// Bytes with their header, which hold just its rows.
+#[derive(Clone, Copy)]
+pub(crate) struct Form<'a> {
+    pub(crate) bytes: &'a [u8],
+    pub(crate) header: Header,
+    ghost heads: { Heads bytes.now header },
+}
+
+impl Form<'_> {
+    // Row `task` of the bytes.
+    pub(crate) fn row(&self, task: u16) -> Row
+        requires { task < self.now.header.tasks }
+        ensures is { result ≡ row_at self.now.bytes.now task }
+        ensures fits { RowFits result }
+    {
+        let at = 88 * usize::from(task);
+        let core = read_field(self.bytes, 48 + at, 3) as u8;
+        let start = read_field(self.bytes, 51 + at, 28);
+        let end = read_field(self.bytes, 79 + at, 28);
+        let claim = read_field(self.bytes, 107 + at, 21);
+        let inputs = CoreSet {
+            bits: read_field(self.bytes, 128 + at, 8) as u8,
+        };
+        Row {
+            core,
+            start,
+            end,
+            claim,
+            inputs,
+        }
+    }
+
+    // The rows of the bytes; those behind them are blank.
+    pub(crate) fn rows(&self) -> [Row; 384]
+        ensures is { take self.now.header.tasks result ≡ rows_of self.now.bytes.now self.now.header.tasks }
+        ensures room { length result ≡ 384 }
+    {
+        array::from_fn(|task| {
+            if task < usize::from(self.header.tasks) {
+                self.row(task as u16)
+            } else {
+                Row::BLANK
+            }
+        })
+    }
+}
