@@ -2,7 +2,8 @@ ghost use Rattle.std.specs.Prelude.{◌≡◌, ◌<◌, ◌≤◌, true, length,
 ghost use Rattle.board.specs.Steps.{is_running};
 ghost use Rattle.board.specs.Meaning.{step_of};
 ghost use Rattle.runs.specs.Calls.{runs_on, outcome, ending, finish};
-ghost use Rattle.frame.specs.View.{state_of, noted};
+ghost use Rattle.calls.specs.Words.{noted};
+ghost use Rattle.frame.specs.View.{state_on};
 
 use crate::Frame;
 use board::Board;
@@ -13,7 +14,7 @@ use runs::Record;
 impl<B: Board, R: Rule> Frame<B, R> {
     // Does the core run this task?
     fn runs(&self, core: u32, task: u32) -> bool
-        ensures is { result ≡ runs_on (state_of B.Board.plan B.Board.progress self.now) core task }
+        ensures is { result ≡ runs_on (state_on B.Board self.now) core task }
         ensures within { result ≡ true → task < length (B.Board.plan self.now.board).rows }
         ensures few { result ≡ true → length (B.Board.plan self.now.board).rows ≤ 384 }
     {
@@ -28,7 +29,7 @@ impl<B: Board, R: Rule> Frame<B, R> {
         requires running { is_running (step_of (B.Board.progress self.old.board) core) ≡ true }
         requires within { task < length (B.Board.plan self.old.board).rows }
         requires few { length (B.Board.plan self.old.board).rows ≤ 384 }
-        ensures frame { state_of B.Board.plan B.Board.progress self.new ≡ ending (state_of B.Board.plan B.Board.progress self.old) core task time }
+        ensures frame { state_on B.Board self.new ≡ ending (state_on B.Board self.old) core task time }
         ensures rule { self.new.rule ≡ self.old.rule }
     {
         self.board.end(core);
@@ -46,7 +47,7 @@ impl<B: Board, R: Rule> Frame<B, R> {
     // The core has finished the task.
     pub fn finish(&mut self, core: u32, task: u32, time: u32) -> Result<(), Refusal>
         ensures kept { is_err result ≡ true → self.new ≡ self.old }
-        ensures outcome { outcome (noted result) (state_of B.Board.plan B.Board.progress self.new) ≡ finish (state_of B.Board.plan B.Board.progress self.old) core task time }
+        ensures outcome { outcome (noted result) (state_on B.Board self.new) ≡ finish (state_on B.Board self.old) core task time }
         ensures rule { self.new.rule ≡ self.old.rule }
     {
         if let Some(refusal) = self.refusal(core, time) {

@@ -8,7 +8,7 @@ ghost use Rattle.board.specs.Meaning.{step_of};
 ghost use Rattle.calls.specs.declared.Refusal.TheVariants.{NoSuchCore, BadTime};
 ghost use Rattle.runs.specs.Records.{fresh};
 ghost use Rattle.runs.specs.Calls.{opening, next_of, next_row, timely};
-ghost use Rattle.frame.specs.View.{state_of, Within};
+ghost use Rattle.frame.specs.View.{state_on, Within};
 
 use board::Board;
 use calls::Refusal;
@@ -47,7 +47,7 @@ fn fresh_records() -> [Record; 384]
 impl<B: Board, R: Rule> Frame<B, R> {
     // Opens the board on the table, and with it a frame in which no task has started.
     pub fn open(table: &Table, mut board: B, rule: R) -> Frame<B, R>
-        ensures frame { state_of B.Board.plan B.Board.progress result ≡ opening (plan_of table.now) }
+        ensures frame { state_on B.Board result ≡ opening (plan_of table.now) }
         ensures rule { result.rule ≡ rule }
     {
         board.open(table);
@@ -61,7 +61,7 @@ impl<B: Board, R: Rule> Frame<B, R> {
 
     // The latest time of an accepted call, 0 before the first.
     pub fn latest(&self) -> u32
-        ensures { result ≡ (state_of B.Board.plan B.Board.progress self.now).latest }
+        ensures { result ≡ (state_on B.Board self.now).latest }
     {
         self.latest
     }
@@ -76,7 +76,7 @@ impl<B: Board, R: Rule> Frame<B, R> {
 
     // The core's next task; none when it is over.
     fn next_task(&self, core: u32) -> Option<u16>
-        ensures is { result ≡ (if is_over (step_of (B.Board.progress self.now.board) core) then None else Some (next_of (state_of B.Board.plan B.Board.progress self.now) core)) }
+        ensures is { result ≡ (if is_over (step_of (B.Board.progress self.now.board) core) then None else Some (next_of (state_on B.Board self.now) core)) }
         ensures within { Within (length (B.Board.plan self.now.board).rows) result }
         ensures few { length (B.Board.plan self.now.board).rows ≤ 384 }
     {
@@ -89,7 +89,7 @@ impl<B: Board, R: Rule> Frame<B, R> {
 
     // The row of the core's next task; a blank one if none is left.
     fn next_row(&self, core: u32) -> Row
-        ensures is { result ≡ next_row (state_of B.Board.plan B.Board.progress self.now) core }
+        ensures is { result ≡ next_row (state_on B.Board self.now) core }
         ensures soon { result.start < 268435456 }
         ensures small { result.claim < 2097152 }
     {
@@ -102,7 +102,7 @@ impl<B: Board, R: Rule> Frame<B, R> {
     // Why a call of this core at this time is refused, if it is; no more is looked at than these two.
     fn refusal(&self, core: u32, time: u32) -> Option<Refusal>
         ensures { result ≡ cond (not (nat_lt core (B.Board.plan self.now.board).cores)) (Some NoSuchCore)
-            (if not (timely (state_of B.Board.plan B.Board.progress self.now) time) then Some BadTime else None) }
+            (if not (timely (state_on B.Board self.now) time) then Some BadTime else None) }
     {
         if core >= self.cores() {
             return Some(Refusal::NoSuchCore);
@@ -115,7 +115,7 @@ impl<B: Board, R: Rule> Frame<B, R> {
 
     // May a call carry this time?
     fn takes(&self, time: u32) -> bool
-        ensures { result ≡ timely (state_of B.Board.plan B.Board.progress self.now) time }
+        ensures { result ≡ timely (state_on B.Board self.now) time }
     {
         self.latest <= time && time <= LAST_TICK
     }

@@ -1,6 +1,6 @@
 ghost use Rattle.std.specs.Prelude.{◌≡◌, ◌≤◌, ◌++◌, length, take, drop};
 ghost use Rattle.runs.specs.Calls.{look, report_answer, reported};
-ghost use Rattle.frame.specs.View.{state_of};
+ghost use Rattle.frame.specs.View.{state_on};
 
 use crate::Frame;
 use board::Board;
@@ -20,7 +20,7 @@ fn copy_front(from: &[Record], to: &mut [Record], n: usize)
 impl<B: Board, R: Rule> Frame<B, R> {
     // How far the core has come.
     pub fn look(&self, core: u32) -> Result<Look, Refusal>
-        ensures { result ≡ look (state_of B.Board.plan B.Board.progress self.now) core }
+        ensures { result ≡ look (state_on B.Board self.now) core }
     {
         if core >= self.cores() {
             return Err(Refusal::NoSuchCore);
@@ -36,8 +36,8 @@ impl<B: Board, R: Rule> Frame<B, R> {
 
     // Writes a record for each task to the front of the list, and says how many; the rest of the list stays.
     pub fn report(&self, list: &mut [Record]) -> Result<u16, Refusal>
-        ensures answer { result ≡ report_answer (state_of B.Board.plan B.Board.progress self.now) list.old }
-        ensures list { list.new ≡ reported (state_of B.Board.plan B.Board.progress self.now) list.old }
+        ensures answer { result ≡ report_answer (state_on B.Board self.now) list.old }
+        ensures list { list.new ≡ reported (state_on B.Board self.now) list.old }
     {
         let tasks = self.board.table().tasks();
         if list.len() < usize::from(tasks) {

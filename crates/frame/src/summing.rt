@@ -2,7 +2,7 @@ ghost use Rattle.std.specs.Prelude.{◌≡◌, ◌≤◌, if◌then◌else◌, S
 ghost use Rattle.runs.specs.Records.{fresh, went_loose};
 ghost use Rattle.runs.specs.Sums.{lower};
 ghost use Rattle.runs.specs.Calls.{next_of, next_row, not_over, at_large, lowest_start, slack, reserve, loose_count, sums, until};
-ghost use Rattle.frame.specs.View.{state_of, Soon, Within};
+ghost use Rattle.frame.specs.View.{state_on, Soon, Within};
 
 use crate::Frame;
 use board::Board;
@@ -35,7 +35,7 @@ fn until(time: u32, low: Option<u32>) -> Option<i32>
 impl<B: Board, R: Rule> Frame<B, R> {
     // Was the core's next task started loose?
     fn runs_loose(&self, core: u32) -> bool
-        ensures { result ≡ went_loose (slice_index_or (state_of B.Board.plan B.Board.progress self.now).records (next_of (state_of B.Board.plan B.Board.progress self.now) core) fresh).manner }
+        ensures { result ≡ went_loose (slice_index_or (state_on B.Board self.now).records (next_of (state_on B.Board self.now) core) fresh).manner }
     {
         match self.board.next(core) {
             Some(task) => self.records[usize::from(task)].manner.is_loose(),
@@ -45,7 +45,7 @@ impl<B: Board, R: Rule> Frame<B, R> {
 
     // Was the core's next task let loose, and has it not ended?
     fn at_large(&self, core: u32) -> bool
-        ensures { result ≡ at_large (state_of B.Board.plan B.Board.progress self.now) core }
+        ensures { result ≡ at_large (state_on B.Board self.now) core }
     {
         match self.board.core(core).step {
             Step::Waiting | Step::Over => false,
@@ -57,7 +57,7 @@ impl<B: Board, R: Rule> Frame<B, R> {
     // The smaller of a start, if there is one, and that of the core's next task, if the core is not over.
     fn lower_with(&self, low: Option<u32>, core: u32) -> Option<u32>
         requires { Soon low }
-        ensures is { result ≡ (if not_over (B.Board.progress self.now.board) core then lower low (next_row (state_of B.Board.plan B.Board.progress self.now) core).start else low) }
+        ensures is { result ≡ (if not_over (B.Board.progress self.now.board) core then lower low (next_row (state_on B.Board self.now) core).start else low) }
         ensures soon { Soon result }
     {
         if self.board.core(core).step.is_over() {
@@ -69,7 +69,7 @@ impl<B: Board, R: Rule> Frame<B, R> {
 
     // The smallest start among the next tasks of the cores that are not over.
     fn lowest_start(&self) -> Option<u32>
-        ensures is { result ≡ lowest_start (state_of B.Board.plan B.Board.progress self.now) }
+        ensures is { result ≡ lowest_start (state_on B.Board self.now) }
         ensures soon { Soon result }
     {
         let mut low = None;
@@ -81,7 +81,7 @@ impl<B: Board, R: Rule> Frame<B, R> {
 
     // The claim of the core's next task, if that was let loose and has not ended.
     fn claim_at_large(&self, core: u32) -> Option<u32>
-        ensures is { result ≡ (if at_large (state_of B.Board.plan B.Board.progress self.now) core then Some (next_row (state_of B.Board.plan B.Board.progress self.now) core).claim else None) }
+        ensures is { result ≡ (if at_large (state_on B.Board self.now) core then Some (next_row (state_on B.Board self.now) core).claim else None) }
         ensures small { Within 2097152 result }
     {
         if self.at_large(core) {
@@ -93,7 +93,7 @@ impl<B: Board, R: Rule> Frame<B, R> {
 
     // The claims of the tasks let loose and not ended, and how many there are.
     fn all_at_large(&self) -> (u32, u8)
-        ensures { result ≡ (reserve (state_of B.Board.plan B.Board.progress self.now), loose_count (state_of B.Board.plan B.Board.progress self.now)) }
+        ensures { result ≡ (reserve (state_on B.Board self.now), loose_count (state_on B.Board self.now)) }
     {
         let mut reserve = 0;
         let mut count = 0;
@@ -109,7 +109,7 @@ impl<B: Board, R: Rule> Frame<B, R> {
     // Slack, reserve and the number of tasks let loose and not ended.
     pub(crate) fn totals(&self, time: u32) -> (Option<i32>, u32, u8)
         requires { time ≤ 268435455 }
-        ensures { result ≡ (slack (state_of B.Board.plan B.Board.progress self.now) time, reserve (state_of B.Board.plan B.Board.progress self.now), loose_count (state_of B.Board.plan B.Board.progress self.now)) }
+        ensures { result ≡ (slack (state_on B.Board self.now) time, reserve (state_on B.Board self.now), loose_count (state_on B.Board self.now)) }
     {
         let slack = until(time, self.lowest_start());
         let (reserve, loose) = self.all_at_large();
@@ -118,7 +118,7 @@ impl<B: Board, R: Rule> Frame<B, R> {
 
     // The same at any time, if a call may carry it: slack (none when all cores are over), reserve, number loose.
     pub fn sums(&self, time: u32) -> Result<(Option<i32>, u32, u8), Refusal>
-        ensures { result ≡ sums (state_of B.Board.plan B.Board.progress self.now) time }
+        ensures { result ≡ sums (state_on B.Board self.now) time }
     {
         if self.takes(time) {
             Ok(self.totals(time))
