@@ -47,8 +47,7 @@ impl<B: Board, R: Rule> Frame<B, R> {
         self.records[usize::from(task)] = Record {
             manner,
             start: time,
-            ended: false,
-            end: 0,
+            ..Record::FRESH
         };
     }
 
@@ -126,9 +125,8 @@ impl<B: Board, R: Rule> Frame<B, R> {
         ensures outcome { outcome (told result) (state_on B.Board self.new) ≡ ask (R.Rule.says self.old.rule) (state_on B.Board self.old) core time }
         ensures rule { self.new.rule ≡ rule_after R.Rule.after self.old.rule (state_on B.Board self.old) core time }
     {
-        match self.refusal(core, time) {
-            Some(refusal) => Err(refusal),
-            None => self.answer(core, time),
-        }
+        self.check_core(core)?;
+        self.check_time(time)?;
+        self.answer(core, time)
     }
 }

@@ -34,14 +34,9 @@ impl<B: Board, R: Rule> Frame<B, R> {
     {
         self.board.end(core);
         self.latest = time;
-        let index = task as usize;
-        let old = self.records[index];
-        self.records[index] = Record {
-            manner: old.manner,
-            start: old.start,
-            ended: true,
-            end: time,
-        };
+        let record = &mut self.records[task as usize];
+        record.ended = true;
+        record.end = time;
     }
 
     // The core has finished the task.
@@ -50,9 +45,8 @@ impl<B: Board, R: Rule> Frame<B, R> {
         ensures outcome { outcome (noted result) (state_on B.Board self.new) ≡ finish (state_on B.Board self.old) core task time }
         ensures rule { self.new.rule ≡ self.old.rule }
     {
-        if let Some(refusal) = self.refusal(core, time) {
-            return Err(refusal);
-        }
+        self.check_core(core)?;
+        self.check_time(time)?;
         if !self.runs(core, task) {
             return Err(Refusal::NotRunning);
         }

@@ -1,7 +1,7 @@
 // The frame: it steers one frame of a table's tasks over any board and any rule.
 #![tactic(auto)]
 
-ghost use Rattle.std.specs.Prelude.{◌≡◌, ◌<◌, ◌≤◌, cond, not, length, replicate, if◌then◌else◌, Some, None, nat_lt};
+ghost use Rattle.std.specs.Prelude.{◌≡◌, ◌<◌, ◌≤◌, length, replicate, if◌then◌else◌, Some, None, Ok, Err, nat_lt};
 ghost use Rattle.table.specs.View.{plan_of};
 ghost use Rattle.board.specs.Steps.{is_over};
 ghost use Rattle.board.specs.Meaning.{step_of};
@@ -99,24 +99,25 @@ impl<B: Board, R: Rule> Frame<B, R> {
         }
     }
 
-    // Why a call of this core at this time is refused, if it is; no more is looked at than these two.
-    fn refusal(&self, core: u32, time: u32) -> Option<Refusal>
-        ensures { result ≡ cond (not (nat_lt core (B.Board.plan self.now.board).cores)) (Some NoSuchCore)
-            (if not (timely (state_on B.Board self.now) time) then Some BadTime else None) }
+    // Refuses a core that the table lacks.
+    fn check_core(&self, core: u32) -> Result<(), Refusal>
+        ensures { result ≡ (if nat_lt core (state_on B.Board self.now).plan.cores then Ok tt else Err NoSuchCore) }
     {
-        if core >= self.cores() {
-            return Some(Refusal::NoSuchCore);
+        if core < self.cores() {
+            Ok(())
+        } else {
+            Err(Refusal::NoSuchCore)
         }
-        if !self.takes(time) {
-            return Some(Refusal::BadTime);
-        }
-        None
     }
 
-    // May a call carry this time?
-    fn takes(&self, time: u32) -> bool
-        ensures { result ≡ timely (state_on B.Board self.now) time }
+    // Refuses a time that a call may not carry.
+    fn check_time(&self, time: u32) -> Result<(), Refusal>
+        ensures { result ≡ (if timely (state_on B.Board self.now) time then Ok tt else Err BadTime) }
     {
-        self.latest <= time && time <= LAST_TICK
+        if self.latest <= time && time <= LAST_TICK {
+            Ok(())
+        } else {
+            Err(Refusal::BadTime)
+        }
     }
 }

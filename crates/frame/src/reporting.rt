@@ -22,9 +22,7 @@ impl<B: Board, R: Rule> Frame<B, R> {
     pub fn look(&self, core: u32) -> Result<Look, Refusal>
         ensures { result ≡ look (state_on B.Board self.now) core }
     {
-        if core >= self.cores() {
-            return Err(Refusal::NoSuchCore);
-        }
+        self.check_core(core)?;
         let at = self.board.core(core);
         let next = self.board.next(core);
         Ok(Look {

@@ -120,10 +120,7 @@ impl<B: Board, R: Rule> Frame<B, R> {
     pub fn sums(&self, time: u32) -> Result<(Option<i32>, u32, u8), Refusal>
         ensures { result ≡ sums (state_on B.Board self.now) time }
     {
-        if self.takes(time) {
-            Ok(self.totals(time))
-        } else {
-            Err(Refusal::BadTime)
-        }
+        self.check_time(time)?;
+        Ok(self.totals(time))
     }
 }
