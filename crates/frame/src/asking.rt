@@ -6,6 +6,7 @@ ghost use Rattle.calls.specs.Words.{told};
 ghost use Rattle.frame.specs.View.{state_on};
 
 use crate::Frame;
+use crate::candidate::Candidate;
 use board::Board;
 use calls::{Answer, Refusal};
 use rule::Rule;
@@ -14,19 +15,18 @@ use runs::{Manner, Record};
 
 impl<B: Board, R: Rule> Frame<B, R> {
     // Asks the rule whether the core's next task may be let loose.
-    fn grants(&mut self, core: u32, time: u32) -> bool
-        requires { time ≤ 268435455 }
-        ensures answer { result ≡ says_to (R.Rule.says self.old.rule) (question (state_on B.Board self.old) core time) }
-        ensures rule { self.new.rule ≡ moved_by R.Rule.after self.old.rule (question (state_on B.Board self.old) core time) }
+    fn grants(&mut self, candidate: Candidate) -> bool
+        ensures answer { result ≡ says_to (R.Rule.says self.old.rule) (question (state_on B.Board self.old) candidate.core candidate.time) }
+        ensures rule { self.new.rule ≡ moved_by R.Rule.after self.old.rule (question (state_on B.Board self.old) candidate.core candidate.time) }
         ensures board { self.new.board ≡ self.old.board }
         ensures latest { self.new.latest ≡ self.old.latest }
         ensures records { self.new.records ≡ self.old.records }
     {
-        let (slack, reserve, loose) = self.totals(time);
+        let (slack, reserve, loose) = self.totals(candidate.time);
         let Some(slack) = slack else {
             return false;
         };
-        let claim = self.next_row(core).claim;
+        let claim = self.next_row(candidate.core).claim;
         self.rule.allows(Question {
             slack,
             reserve,
@@ -35,35 +35,33 @@ impl<B: Board, R: Rule> Frame<B, R> {
         })
     }
 
-    // Starts the task on the core, which is clear, and notes it.
-    fn begin(&mut self, core: u32, task: u16, time: u32, manner: Manner)
-        requires clear { clear (B.Board.plan self.old.board) (B.Board.progress self.old.board) core ≡ true }
-        requires within { task < 384 }
-        ensures frame { state_on B.Board self.new ≡ starting (state_on B.Board self.old) core task time manner }
+    // Starts the task on its core, which is clear, and notes it.
+    fn begin(&mut self, candidate: Candidate, manner: Manner)
+        requires { clear (B.Board.plan self.old.board) (B.Board.progress self.old.board) candidate.core ≡ true }
+        ensures frame { state_on B.Board self.new ≡ starting (state_on B.Board self.old) candidate.core candidate.task candidate.time manner }
         ensures rule { self.new.rule ≡ self.old.rule }
     {
-        self.board.start(core);
-        self.latest = time;
-        self.records[usize::from(task)] = Record {
+        self.board.start(candidate.core);
+        self.latest = candidate.time;
+        self.records[usize::from(candidate.task)] = Record {
             manner,
-            start: time,
+            start: candidate.time,
             ..Record::FRESH
         };
     }
 
     // The same, in turn or loose as the core's step says.
-    fn go(&mut self, core: u32, task: u16, time: u32) -> Answer
-        requires clear { clear (B.Board.plan self.old.board) (B.Board.progress self.old.board) core ≡ true }
-        requires within { task < 384 }
-        ensures outcome { outcome (Told result) (state_on B.Board self.new) ≡ go_on (state_on B.Board self.old) core task time }
+    fn go(&mut self, candidate: Candidate) -> Answer
+        requires { clear (B.Board.plan self.old.board) (B.Board.progress self.old.board) candidate.core ≡ true }
+        ensures outcome { outcome (Told result) (state_on B.Board self.new) ≡ go_on (state_on B.Board self.old) candidate.core candidate.task candidate.time }
         ensures rule { self.new.rule ≡ self.old.rule }
     {
-        if self.board.core(core).step.is_loose() {
-            self.begin(core, task, time, Manner::Loose);
-            Answer::Loose(task)
+        if self.board.core(candidate.core).step.is_loose() {
+            self.begin(candidate, Manner::Loose);
+            Answer::Loose(candidate.task)
         } else {
-            self.begin(core, task, time, Manner::InTurn);
-            Answer::Go(task)
+            self.begin(candidate, Manner::InTurn);
+            Answer::Go(candidate.task)
         }
     }
 
@@ -77,17 +75,16 @@ impl<B: Board, R: Rule> Frame<B, R> {
     }
 
     // What an ask comes to where the core's next task is not clear.
-    fn ease_or_hold(&mut self, core: u32, task: u16, time: u32) -> Answer
-        requires known { task ≡ next_of (state_on B.Board self.old) core }
-        requires within { task < 384 }
-        requires soon { time ≤ 268435455 }
-        ensures outcome { outcome (Told result) (state_on B.Board self.new) ≡ ease_or_hold (R.Rule.says self.old.rule) (state_on B.Board self.old) core time }
-        ensures rule { self.new.rule ≡ (if easable (B.Board.plan self.old.board) (B.Board.progress self.old.board) core then moved_by R.Rule.after self.old.rule (question (state_on B.Board self.old) core time) else self.old.rule) }
+    fn ease_or_hold(&mut self, candidate: Candidate) -> Answer
+        requires { candidate.task ≡ next_of (state_on B.Board self.old) candidate.core }
+        ensures outcome { outcome (Told result) (state_on B.Board self.new) ≡ ease_or_hold (R.Rule.says self.old.rule) (state_on B.Board self.old) candidate.core candidate.time }
+        ensures rule { self.new.rule ≡ (if easable (B.Board.plan self.old.board) (B.Board.progress self.old.board) candidate.core then moved_by R.Rule.after self.old.rule (question (state_on B.Board self.old) candidate.core candidate.time) else self.old.rule) }
     {
-        if self.board.easable(core) && self.grants(core, time) {
+        let Candidate { core, task, time } = candidate;
+        if self.board.easable(core) && self.grants(candidate) {
             self.board.ease(core);
             if self.board.clear(core) {
-                return self.go(core, task, time);
+                return self.go(candidate);
             }
             return self.note(time, Answer::Data(task));
         }
@@ -112,10 +109,11 @@ impl<B: Board, R: Rule> Frame<B, R> {
         let Some(task) = self.next_task(core) else {
             return Ok(self.note(time, Answer::Over));
         };
+        let candidate = Candidate { core, task, time };
         if self.board.clear(core) {
-            Ok(self.go(core, task, time))
+            Ok(self.go(candidate))
         } else {
-            Ok(self.ease_or_hold(core, task, time))
+            Ok(self.ease_or_hold(candidate))
         }
     }
 

@@ -18,10 +18,10 @@ impl<B: Board, R: Rule> Frame<B, R> {
         ensures within { result ≡ true → task < length (B.Board.plan self.now.board).rows }
         ensures few { result ≡ true → length (B.Board.plan self.now.board).rows ≤ 384 }
     {
-        match self.next_task(core) {
-            Some(next) => self.board.core(core).step.is_running() && u32::from(next) == task,
-            None => false,
-        }
+        self.board.core(core).step.is_running()
+            && self
+                .next_task(core)
+                .is_some_and(|next| u32::from(next) == task)
     }
 
     // Ends the task that the core runs, and notes it.

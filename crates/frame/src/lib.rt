@@ -18,6 +18,7 @@ use table::lawful::Table;
 use table::rows::Row;
 
 pub mod asking;
+mod candidate;
 pub mod finishing;
 pub mod playing;
 pub mod reporting;
@@ -93,10 +94,9 @@ impl<B: Board, R: Rule> Frame<B, R> {
         ensures soon { result.start < 268435456 }
         ensures small { result.claim < 2097152 }
     {
-        match self.board.next(core) {
-            Some(task) => self.board.table().row(task),
-            None => Row::BLANK,
-        }
+        self.board
+            .next(core)
+            .map_or(Row::BLANK, |task| self.board.table().row(task))
     }
 
     // Refuses a core that the table lacks.

@@ -9,15 +9,13 @@ use board::Board;
 use board::cores::Step;
 use calls::Refusal;
 use rule::Rule;
+use runs::Record;
 
 // The smaller of a start, if there is one, and another.
 fn lower(low: Option<u32>, start: u32) -> Option<u32>
     ensures { result ≡ lower low start }
 {
-    match low {
-        None => Some(start),
-        Some(other) => Some(other.min(start)),
-    }
+    Some(low.map_or(start, |other| other.min(start)))
 }
 
 // The start, if there is one, less the time.
@@ -26,21 +24,25 @@ fn until(time: u32, low: Option<u32>) -> Option<i32>
     requires soon { Soon low }
     ensures { result ≡ until time low }
 {
-    match low {
-        None => None,
-        Some(start) => Some(start as i32 - time as i32),
-    }
+    low.map(|start| start as i32 - time as i32)
 }
 
 impl<B: Board, R: Rule> Frame<B, R> {
-    // Was the core's next task started loose?
-    fn runs_loose(&self, core: u32) -> bool
-        ensures { result ≡ went_loose (slice_index_or (state_on B.Board self.now).records (next_of (state_on B.Board self.now) core) fresh).manner }
+    // The record of the task; a fresh one of a task that the table lacks.
+    fn record(&self, task: u16) -> Record
+        ensures { result ≡ slice_index_or (state_on B.Board self.now).records task fresh }
     {
-        match self.board.next(core) {
-            Some(task) => self.records[usize::from(task)].manner.is_loose(),
-            None => false,
-        }
+        let tasks = usize::from(self.board.table().tasks());
+        self.records[..tasks].get(usize::from(task)).copied().unwrap_or(Record::FRESH)
+    }
+
+    // The record of the core's next task; a fresh one if none is left.
+    fn next_record(&self, core: u32) -> Record
+        ensures { let s = state_on B.Board self.now in result ≡ slice_index_or s.records (next_of s core) fresh }
+    {
+        self.board
+            .next(core)
+            .map_or(Record::FRESH, |task| self.record(task))
     }
 
     // Was the core's next task let loose, and has it not ended?
@@ -50,7 +52,7 @@ impl<B: Board, R: Rule> Frame<B, R> {
         match self.board.core(core).step {
             Step::Waiting | Step::Over => false,
             Step::Loose => true,
-            Step::Running => self.runs_loose(core),
+            Step::Running => self.next_record(core).manner.is_loose(),
         }
     }
 
