@@ -99,6 +99,13 @@ impl<B: Board, R: Rule> Frame<B, R> {
             .map_or(Row::BLANK, |task| self.board.table().row(task))
     }
 
+    // The records of the table's tasks.
+    fn table_records(&self) -> &[Record]
+        ensures { result.now ≡ (state_on B.Board self.now).records }
+    {
+        &self.records[..usize::from(self.board.table().tasks())]
+    }
+
     // Refuses a core that the table lacks.
     fn check_core(&self, core: u32) -> Result<(), Refusal>
         ensures { result ≡ (if nat_lt core (state_on B.Board self.now).plan.cores then Ok tt else Err NoSuchCore) }

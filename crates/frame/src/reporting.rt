@@ -8,15 +8,6 @@ use calls::Refusal;
 use rule::Rule;
 use runs::{Look, Record};
 
-// Copies the first n records.
-fn copy_front(from: &[Record], to: &mut [Record], n: usize)
-    requires from { n ≤ length from.now }
-    requires to { n ≤ length to.old }
-    ensures { to.new ≡ take n from.now ++ drop n to.old }
-{
-    to[..n].copy_from_slice(&from[..n]);
-}
-
 impl<B: Board, R: Rule> Frame<B, R> {
     // How far the core has come.
     pub fn look(&self, core: u32) -> Result<Look, Refusal>
@@ -38,10 +29,11 @@ impl<B: Board, R: Rule> Frame<B, R> {
         ensures list { list.new ≡ reported (state_on B.Board self.now) list.old }
     {
         let tasks = self.board.table().tasks();
-        if list.len() < usize::from(tasks) {
+        let front = usize::from(tasks);
+        if list.len() < front {
             return Err(Refusal::ListTooShort);
         }
-        copy_front(&self.records, list, usize::from(tasks));
+        list[..front].copy_from_slice(self.table_records());
         Ok(tasks)
     }
 }

@@ -1,4 +1,5 @@
-ghost use Rattle.std.specs.Prelude.{◌≡◌, ◌≤◌, if◌then◌else◌, Some, None, slice_index_or};
+ghost use Rattle.std.specs.Prelude.{◌≡◌, ◌≤◌, if◌then◌else◌, Some, None, slice_index_or, filter, cond, min, length};
+ghost use Rattle.std.specs.List.{range_with_len, sum_by, filter_map, reduce};
 ghost use Rattle.runs.specs.Records.{fresh, went_loose};
 ghost use Rattle.runs.specs.Sums.{lower};
 ghost use Rattle.runs.specs.Calls.{next_of, next_row, not_over, at_large, lowest_start, slack, reserve, loose_count, sums, until};
@@ -10,13 +11,6 @@ use board::cores::Step;
 use calls::Refusal;
 use rule::Rule;
 use runs::Record;
-
-// The smaller of a start, if there is one, and another.
-fn lower(low: Option<u32>, start: u32) -> Option<u32>
-    ensures { result ≡ lower low start }
-{
-    Some(low.map_or(start, |other| other.min(start)))
-}
 
 // The start, if there is one, less the time.
 fn until(time: u32, low: Option<u32>) -> Option<i32>
@@ -32,8 +26,10 @@ impl<B: Board, R: Rule> Frame<B, R> {
     fn record(&self, task: u16) -> Record
         ensures { result ≡ slice_index_or (state_on B.Board self.now).records task fresh }
     {
-        let tasks = usize::from(self.board.table().tasks());
-        self.records[..tasks].get(usize::from(task)).copied().unwrap_or(Record::FRESH)
+        self.table_records()
+            .get(usize::from(task))
+            .copied()
+            .unwrap_or(Record::FRESH)
     }
 
     // The record of the core's next task; a fresh one if none is left.
@@ -56,66 +52,51 @@ impl<B: Board, R: Rule> Frame<B, R> {
         }
     }
 
-    // The smaller of a start, if there is one, and that of the core's next task, if the core is not over.
-    fn lower_with(&self, low: Option<u32>, core: u32) -> Option<u32>
-        requires { Soon low }
-        ensures is { result ≡ (if not_over (B.Board.progress self.now.board) core then lower low (next_row (state_on B.Board self.now) core).start else low) }
+    // The start of the core's next task, if the core is not over.
+    fn next_start(&self, core: u32) -> Option<u32>
+        ensures is { let s = state_on B.Board self.now in result ≡ (if not_over s.progress core then Some (next_row s core).start else None) }
         ensures soon { Soon result }
     {
         if self.board.core(core).step.is_over() {
-            low
+            None
         } else {
-            lower(low, self.next_row(core).start)
+            Some(self.next_row(core).start)
         }
     }
 
     // The smallest start among the next tasks of the cores that are not over.
     fn lowest_start(&self) -> Option<u32>
-        ensures is { result ≡ lowest_start (state_on B.Board self.now) }
+        ensures is { let s = state_on B.Board self.now in result ≡ reduce min (filter_map (λ k. cond (not_over s.progress k) (Some (next_row s k).start) None) (range_with_len 0 s.plan.cores)) }
         ensures soon { Soon result }
     {
-        let mut low = None;
-        for k in 0..self.cores() {
-            low = self.lower_with(low, k);
-        }
-        low
+        (0..self.cores()).filter_map(|k| self.next_start(k)).min()
     }
 
-    // The claim of the core's next task, if that was let loose and has not ended.
-    fn claim_at_large(&self, core: u32) -> Option<u32>
-        ensures is { result ≡ (if at_large (state_on B.Board self.now) core then Some (next_row (state_on B.Board self.now) core).claim else None) }
-        ensures small { Within 2097152 result }
+    // The claims of the tasks let loose and not ended.
+    fn reserve(&self) -> u32
+        ensures { let s = state_on B.Board self.now in result ≡ sum_by (λ k. (next_row s k).claim) (filter (at_large s) (range_with_len 0 s.plan.cores)) }
     {
-        if self.at_large(core) {
-            Some(self.next_row(core).claim)
-        } else {
-            None
-        }
+        (0..self.cores())
+            .filter(|k| self.at_large(*k))
+            .map(|k| self.next_row(k).claim)
+            .sum()
     }
 
-    // The claims of the tasks let loose and not ended, and how many there are.
-    fn all_at_large(&self) -> (u32, u8)
-        ensures { result ≡ (reserve (state_on B.Board self.now), loose_count (state_on B.Board self.now)) }
+    // How many tasks are let loose and not ended.
+    fn loose_count(&self) -> u8
+        ensures { let s = state_on B.Board self.now in result ≡ length (filter (at_large s) (range_with_len 0 s.plan.cores)) }
     {
-        let mut reserve = 0;
-        let mut count = 0;
-        for k in 0..self.cores() {
-            if let Some(claim) = self.claim_at_large(k) {
-                reserve += claim;
-                count += 1;
-            }
-        }
-        (reserve, count)
+        (0..self.cores()).filter(|k| self.at_large(*k)).count() as u8
     }
 
     // Slack, reserve and the number of tasks let loose and not ended.
+    #[tactic(auto, using(crate::proofs::Adding::total_as_sum, crate::proofs::Adding::total_as_count, crate::proofs::Adding::lowest_as_least))]
     pub(crate) fn totals(&self, time: u32) -> (Option<i32>, u32, u8)
         requires { time ≤ 268435455 }
         ensures { result ≡ (slack (state_on B.Board self.now) time, reserve (state_on B.Board self.now), loose_count (state_on B.Board self.now)) }
     {
         let slack = until(time, self.lowest_start());
-        let (reserve, loose) = self.all_at_large();
-        (slack, reserve, loose)
+        (slack, self.reserve(), self.loose_count())
     }
 
     // The same at any time, if a call may carry it: slack (none when all cores are over), reserve, number loose.
