@@ -1,5 +1,4 @@
-ghost use Rattle.std.specs.Prelude.{◌≡◌, ◌≤◌, if◌then◌else◌, Some, None, slice_index_or, filter, cond, min, length};
-ghost use Rattle.std.specs.List.{range_with_len, sum_by, filter_map, reduce};
+ghost use Rattle.std.specs.Prelude.{◌≡◌, ◌≤◌, if◌then◌else◌, Some, None, slice_index_or};
 ghost use Rattle.runs.specs.Records.{fresh, went_loose};
 ghost use Rattle.runs.specs.Sums.{lower};
 ghost use Rattle.runs.specs.Calls.{next_of, next_row, not_over, at_large, lowest_start, slack, reserve, loose_count, sums, until};
@@ -66,7 +65,7 @@ impl<B: Board, R: Rule> Frame<B, R> {
 
     // The smallest start among the next tasks of the cores that are not over.
     fn lowest_start(&self) -> Option<u32>
-        ensures is { let s = state_on B.Board self.now in result ≡ reduce min (filter_map (λ k. cond (not_over s.progress k) (Some (next_row s k).start) None) (range_with_len 0 s.plan.cores)) }
+        ensures is { result ≡ lowest_start (state_on B.Board self.now) }
         ensures soon { Soon result }
     {
         (0..self.cores()).filter_map(|k| self.next_start(k)).min()
@@ -74,7 +73,7 @@ impl<B: Board, R: Rule> Frame<B, R> {
 
     // The claims of the tasks let loose and not ended.
     fn reserve(&self) -> u32
-        ensures { let s = state_on B.Board self.now in result ≡ sum_by (λ k. (next_row s k).claim) (filter (at_large s) (range_with_len 0 s.plan.cores)) }
+        ensures { result ≡ reserve (state_on B.Board self.now) }
     {
         (0..self.cores())
             .filter(|k| self.at_large(*k))
@@ -84,13 +83,12 @@ impl<B: Board, R: Rule> Frame<B, R> {
 
     // How many tasks are let loose and not ended.
     fn loose_count(&self) -> u8
-        ensures { let s = state_on B.Board self.now in result ≡ length (filter (at_large s) (range_with_len 0 s.plan.cores)) }
+        ensures { result ≡ loose_count (state_on B.Board self.now) }
     {
         (0..self.cores()).filter(|k| self.at_large(*k)).count() as u8
     }
 
     // Slack, reserve and the number of tasks let loose and not ended.
-    #[tactic(auto, using(crate::proofs::Adding::total_as_sum, crate::proofs::Adding::total_as_count, crate::proofs::Adding::lowest_as_least))]
     pub(crate) fn totals(&self, time: u32) -> (Option<i32>, u32, u8)
         requires { time ≤ 268435455 }
         ensures { result ≡ (slack (state_on B.Board self.now) time, reserve (state_on B.Board self.now), loose_count (state_on B.Board self.now)) }
