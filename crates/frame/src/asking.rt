@@ -10,7 +10,6 @@ use crate::candidate::Candidate;
 use board::Board;
 use calls::{Answer, Refusal};
 use rule::Rule;
-use rule::question::Question;
 use runs::{Manner, Record};
 
 impl<B: Board, R: Rule> Frame<B, R> {
@@ -22,22 +21,15 @@ impl<B: Board, R: Rule> Frame<B, R> {
         ensures latest { self.new.latest ≡ self.old.latest }
         ensures records { self.new.records ≡ self.old.records }
     {
-        let (slack, reserve, loose) = self.totals(candidate.time);
-        let Some(slack) = slack else {
+        let Some(question) = self.question(candidate) else {
             return false;
         };
-        let claim = self.next_row(candidate.core).claim;
-        self.rule.allows(Question {
-            slack,
-            reserve,
-            claim,
-            loose,
-        })
+        self.rule.allows(question)
     }
 
     // Starts the task on its core, which is clear, and notes it.
     fn begin(&mut self, candidate: Candidate, manner: Manner)
-        requires { clear (B.Board.plan self.old.board) (B.Board.progress self.old.board) candidate.core ≡ true }
+        requires { let s = state_on B.Board self.old in clear s.plan s.progress candidate.core ≡ true }
         ensures frame { state_on B.Board self.new ≡ starting (state_on B.Board self.old) candidate.core candidate.task candidate.time manner }
         ensures rule { self.new.rule ≡ self.old.rule }
     {
@@ -52,7 +44,7 @@ impl<B: Board, R: Rule> Frame<B, R> {
 
     // The same, in turn or loose as the core's step says.
     fn go(&mut self, candidate: Candidate) -> Answer
-        requires { clear (B.Board.plan self.old.board) (B.Board.progress self.old.board) candidate.core ≡ true }
+        requires { let s = state_on B.Board self.old in clear s.plan s.progress candidate.core ≡ true }
         ensures outcome { outcome (Told result) (state_on B.Board self.new) ≡ go_on (state_on B.Board self.old) candidate.core candidate.task candidate.time }
         ensures rule { self.new.rule ≡ self.old.rule }
     {
@@ -67,7 +59,7 @@ impl<B: Board, R: Rule> Frame<B, R> {
 
     // Makes the time the latest and gives the answer, with which no task starts.
     fn note(&mut self, time: u32, answer: Answer) -> Answer
-        ensures outcome { outcome (Told result) (state_on B.Board self.new) ≡ answered (state_on B.Board self.old) time (B.Board.progress self.old.board) answer }
+        ensures outcome { let s = state_on B.Board self.old in outcome (Told result) (state_on B.Board self.new) ≡ answered s time s.progress answer }
         ensures rule { self.new.rule ≡ self.old.rule }
     {
         self.latest = time;
@@ -78,7 +70,7 @@ impl<B: Board, R: Rule> Frame<B, R> {
     fn ease_or_hold(&mut self, candidate: Candidate) -> Answer
         requires { candidate.task ≡ next_of (state_on B.Board self.old) candidate.core }
         ensures outcome { outcome (Told result) (state_on B.Board self.new) ≡ ease_or_hold (R.Rule.says self.old.rule) (state_on B.Board self.old) candidate.core candidate.time }
-        ensures rule { self.new.rule ≡ (if easable (B.Board.plan self.old.board) (B.Board.progress self.old.board) candidate.core then moved_by R.Rule.after self.old.rule (question (state_on B.Board self.old) candidate.core candidate.time) else self.old.rule) }
+        ensures rule { let s = state_on B.Board self.old in self.new.rule ≡ (if easable s.plan s.progress candidate.core then moved_by R.Rule.after self.old.rule (question s candidate.core candidate.time) else self.old.rule) }
     {
         let Candidate { core, task, time } = candidate;
         if self.board.easable(core) && self.grants(candidate) {
@@ -97,7 +89,7 @@ impl<B: Board, R: Rule> Frame<B, R> {
 
     // What an ask comes to where the core and the time are taken.
     fn answer(&mut self, core: u32, time: u32) -> Result<Answer, Refusal>
-        requires core { core < (B.Board.plan self.old.board).cores }
+        requires core { core < (state_on B.Board self.old).plan.cores }
         requires timely { timely (state_on B.Board self.old) time ≡ true }
         ensures kept { is_err result ≡ true → self.new ≡ self.old }
         ensures outcome { outcome (told result) (state_on B.Board self.new) ≡ ask (R.Rule.says self.old.rule) (state_on B.Board self.old) core time }

@@ -15,8 +15,7 @@ impl<B: Board, R: Rule> Frame<B, R> {
     // Does the core run this task?
     fn runs(&self, core: u32, task: u32) -> bool
         ensures is { result ≡ runs_on (state_on B.Board self.now) core task }
-        ensures within { result ≡ true → task < length (B.Board.plan self.now.board).rows }
-        ensures few { result ≡ true → length (B.Board.plan self.now.board).rows ≤ 384 }
+        ensures within { result ≡ true → task < length (state_on B.Board self.now).plan.rows }
     {
         self.board.core(core).step.is_running()
             && self
@@ -26,9 +25,8 @@ impl<B: Board, R: Rule> Frame<B, R> {
 
     // Ends the task that the core runs, and notes it.
     fn close(&mut self, core: u32, task: u32, time: u32)
-        requires running { is_running (step_of (B.Board.progress self.old.board) core) ≡ true }
-        requires within { task < length (B.Board.plan self.old.board).rows }
-        requires few { length (B.Board.plan self.old.board).rows ≤ 384 }
+        requires running { is_running (step_of (state_on B.Board self.old).progress core) ≡ true }
+        requires within { task < length (state_on B.Board self.old).plan.rows }
         ensures frame { state_on B.Board self.new ≡ ending (state_on B.Board self.old) core task time }
         ensures rule { self.new.rule ≡ self.old.rule }
     {

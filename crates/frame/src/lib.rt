@@ -38,13 +38,6 @@ pub struct Frame<B: Board, R: Rule> {
     records: [Record; 384],
 }
 
-// A record for each task that a table can have.
-fn fresh_records() -> [Record; 384]
-    ensures { result ≡ replicate 384 fresh }
-{
-    [Record::FRESH; 384]
-}
-
 impl<B: Board, R: Rule> Frame<B, R> {
     // Opens the board on the table, and with it a frame in which no task has started.
     pub fn open(table: &Table, mut board: B, rule: R) -> Frame<B, R>
@@ -56,7 +49,7 @@ impl<B: Board, R: Rule> Frame<B, R> {
             board,
             rule,
             latest: 0,
-            records: fresh_records(),
+            records: [Record::FRESH; 384],
         }
     }
 
@@ -69,7 +62,7 @@ impl<B: Board, R: Rule> Frame<B, R> {
 
     // The number of cores of the table.
     fn cores(&self) -> u32
-        ensures is { result ≡ (B.Board.plan self.now.board).cores }
+        ensures is { result ≡ (state_on B.Board self.now).plan.cores }
         ensures few { result ≤ 8 }
     {
         u32::from(self.board.table().cores())
@@ -77,9 +70,8 @@ impl<B: Board, R: Rule> Frame<B, R> {
 
     // The core's next task; none when it is over.
     fn next_task(&self, core: u32) -> Option<u16>
-        ensures is { result ≡ (if is_over (step_of (B.Board.progress self.now.board) core) then None else Some (next_of (state_on B.Board self.now) core)) }
-        ensures within { Within (length (B.Board.plan self.now.board).rows) result }
-        ensures few { length (B.Board.plan self.now.board).rows ≤ 384 }
+        ensures is { let s = state_on B.Board self.now in result ≡ (if is_over (step_of s.progress core) then None else Some (next_of s core)) }
+        ensures within { Within (length (state_on B.Board self.now).plan.rows) result }
     {
         if self.board.core(core).step.is_over() {
             None

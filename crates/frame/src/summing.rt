@@ -1,24 +1,16 @@
 ghost use Rattle.std.specs.Prelude.{◌≡◌, ◌≤◌, if◌then◌else◌, Some, None, slice_index_or};
-ghost use Rattle.runs.specs.Records.{fresh, went_loose};
-ghost use Rattle.runs.specs.Sums.{lower};
-ghost use Rattle.runs.specs.Calls.{next_of, next_row, not_over, at_large, lowest_start, slack, reserve, loose_count, sums, until};
-ghost use Rattle.frame.specs.View.{state_on, Soon, Within};
+ghost use Rattle.runs.specs.Records.{fresh};
+ghost use Rattle.runs.specs.Calls.{next_of, next_row, not_over, at_large, lowest_start, slack, reserve, loose_count, question, sums};
+ghost use Rattle.frame.specs.View.{state_on, Soon};
 
-use crate::Frame;
+use crate::candidate::Candidate;
+use crate::{Frame, LAST_TICK};
 use board::Board;
 use board::cores::Step;
 use calls::Refusal;
 use rule::Rule;
+use rule::question::Question;
 use runs::Record;
-
-// The start, if there is one, less the time.
-fn until(time: u32, low: Option<u32>) -> Option<i32>
-    requires time { time ≤ 268435455 }
-    requires soon { Soon low }
-    ensures { result ≡ until time low }
-{
-    low.map(|start| start as i32 - time as i32)
-}
 
 impl<B: Board, R: Rule> Frame<B, R> {
     // The record of the task; a fresh one of a task that the table lacks.
@@ -88,20 +80,31 @@ impl<B: Board, R: Rule> Frame<B, R> {
         (0..self.cores()).filter(|k| self.at_large(*k)).count() as u8
     }
 
-    // Slack, reserve and the number of tasks let loose and not ended.
-    pub(crate) fn totals(&self, time: u32) -> (Option<i32>, u32, u8)
-        requires { time ≤ 268435455 }
-        ensures { result ≡ (slack (state_on B.Board self.now) time, reserve (state_on B.Board self.now), loose_count (state_on B.Board self.now)) }
+    // That smallest start less the time; none when all cores are over.
+    fn slack(&self, time: u32) -> Option<i32>
+        requires { time ≤ LAST_TICK }
+        ensures { result ≡ slack (state_on B.Board self.now) time }
     {
-        let slack = until(time, self.lowest_start());
-        (slack, self.reserve(), self.loose_count())
+        self.lowest_start().map(|start| start as i32 - time as i32)
     }
 
-    // The same at any time, if a call may carry it: slack (none when all cores are over), reserve, number loose.
+    // What the rule is asked about the candidate; nothing when all cores are over.
+    pub(crate) fn question(&self, candidate: Candidate) -> Option<Question>
+        ensures { result ≡ question (state_on B.Board self.now) candidate.core candidate.time }
+    {
+        Some(Question {
+            slack: self.slack(candidate.time)?,
+            reserve: self.reserve(),
+            claim: self.next_row(candidate.core).claim,
+            loose: self.loose_count(),
+        })
+    }
+
+    // Slack, reserve and the number of tasks let loose and not ended, at a time that a call may carry.
     pub fn sums(&self, time: u32) -> Result<(Option<i32>, u32, u8), Refusal>
         ensures { result ≡ sums (state_on B.Board self.now) time }
     {
         self.check_time(time)?;
-        Ok(self.totals(time))
+        Ok((self.slack(time), self.reserve(), self.loose_count()))
     }
 }

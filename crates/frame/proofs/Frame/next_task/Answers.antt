@@ -4,7 +4,7 @@ use Rattle.board.specs.Steps.{is_over}
 use Rattle.board.specs.Meaning.{step_of, next}
 use Rattle.board.specs.declared.cores.Core.{Core}
 use Rattle.frame.proofs.Frame.next_task.Goals as goal
-use Rattle.frame.proofs.Parts.{few_rows, left_named, within_rows}
+use Rattle.frame.proofs.Parts.{left_named, within_rows}
 
 pub returns-else-is_over : goal.returns-else-is_over
 returns-else-is_over g c =
@@ -17,5 +17,4 @@ returns-else-is_over g c =
     record {
       is = c.next.ensures ∙ (left_named p law cs k (g.met.B.Board.left x k more) ∙ sym (cond-false (is_over (step_of cs k)) None (Some (next p cs k)) more));
       within = within_rows p law cs k c.next.result c.next.ensures;
-      few = few_rows p law cs k;
     }
