@@ -28,6 +28,7 @@ impl<B: Board, R: Rule> Frame<B, R> {
     }
 
     // Starts the task on its core, which is clear, and notes it.
+    #[tactic(auto, using(board::specs::Keeping::take_set_in))]
     fn begin(&mut self, candidate: Candidate, manner: Manner)
         requires { let s = state_on B.Board self.old in clear s.plan s.progress candidate.core ≡ true }
         ensures frame { state_on B.Board self.new ≡ starting (state_on B.Board self.old) candidate.core candidate.task candidate.time manner }

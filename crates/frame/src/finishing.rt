@@ -24,6 +24,7 @@ impl<B: Board, R: Rule> Frame<B, R> {
     }
 
     // Ends the task that the core runs, and notes it.
+    #[tactic(auto, using(board::specs::Keeping::take_set_in, std::proofs::lemmas::Grind::common_steps))]
     fn close(&mut self, core: u32, task: u32, time: u32)
         requires running { is_running (step_of (state_on B.Board self.old).progress core) ≡ true }
         requires within { task < length (state_on B.Board self.old).plan.rows }

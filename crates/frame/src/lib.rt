@@ -69,6 +69,7 @@ impl<B: Board, R: Rule> Frame<B, R> {
     }
 
     // The core's next task; none when it is over.
+    #[tactic(auto, using(crate::proofs::Parts::left_named, crate::proofs::Parts::within_rows))]
     fn next_task(&self, core: u32) -> Option<u16>
         ensures is { let s = state_on B.Board self.now in result ≡ (if is_over (step_of s.progress core) then None else Some (next_of s core)) }
         ensures within { Within (length (state_on B.Board self.now).plan.rows) result }

@@ -22,8 +22,8 @@ returns g c =
     let s = state_on g.B.Board c.args.self.now in
     let n = s.plan.cores in
     sum_by_from_yields_List _ _ c.map.result _ c.sum.ensures.ran
-        (YieldsList-from_map _ (λ k. (next_row s k).claim)
-            (YieldsList-at c.map.ensures.source (YieldsList-from_filter _ (at_large s) (YieldsList-at c.filter.ensures.source (YieldsList-from_range 0 n n (cc) (omega arith))) c.filter.ensures.closure (λ x r q k. search (rules, tests))))
-            c.map.ensures.closure
-            (λ x r q k. search (rules, tests)))
+    (YieldsList-from_map _ (λ k. (next_row s k).claim)
+    (YieldsList-at c.map.ensures.source (YieldsList-from_filter _ (at_large s) (YieldsList-at c.filter.ensures.source (YieldsList-from_range 0 n n (cc) (omega arith))) c.filter.ensures.closure (λ x r q k. search (rules, tests))))
+    c.map.ensures.closure
+    (λ x r q k. search (rules, tests)))
     ∙ sym (total_as_sum (at_large s) (λ k. (next_row s k).claim) n)
