@@ -1,8 +1,8 @@
-ghost use Rattle.std.specs.Prelude.{◌≡◌, ◌<◌, ◌≤◌, true, is_err, if◌then◌else◌};
+ghost use Rattle.std.specs.Prelude.{◌≡◌, ◌<◌, true, is_err, if◌then◌else◌};
 ghost use Rattle.board.specs.Meaning.{clear, easable};
+ghost use Rattle.calls.specs.Words.{told};
 ghost use Rattle.calls.specs.declared.Reply.TheVariants.{Told};
 ghost use Rattle.runs.specs.Calls.{next_of, timely, question, says_to, moved_by, rule_after, outcome, answered, starting, go_on, ease_or_hold, ask};
-ghost use Rattle.calls.specs.Words.{told};
 ghost use Rattle.frame.specs.View.{state_on};
 
 use crate::Frame;
@@ -16,10 +16,7 @@ impl<B: Board, R: Rule> Frame<B, R> {
     // Asks the rule whether the core's next task may be let loose.
     fn grants(&mut self, candidate: Candidate) -> bool
         ensures answer { result ≡ says_to (R.Rule.says self.old.rule) (question (state_on B.Board self.old) candidate.core candidate.time) }
-        ensures rule { self.new.rule ≡ moved_by R.Rule.after self.old.rule (question (state_on B.Board self.old) candidate.core candidate.time) }
-        ensures board { self.new.board ≡ self.old.board }
-        ensures latest { self.new.latest ≡ self.old.latest }
-        ensures records { self.new.records ≡ self.old.records }
+        ensures rule { self.new ≡ record self.old { rule = moved_by R.Rule.after self.old.rule (question (state_on B.Board self.old) candidate.core candidate.time) } }
     {
         let Some(question) = self.question(candidate) else {
             return false;

@@ -1,8 +1,8 @@
-ghost use Rattle.std.specs.Prelude.{◌≡◌, ◌<◌, ◌≤◌, true, length, is_err};
+ghost use Rattle.std.specs.Prelude.{◌≡◌, ◌<◌, true, length, is_err};
 ghost use Rattle.board.specs.Steps.{is_running};
 ghost use Rattle.board.specs.Meaning.{step_of};
-ghost use Rattle.runs.specs.Calls.{runs_on, outcome, ending, finish};
 ghost use Rattle.calls.specs.Words.{noted};
+ghost use Rattle.runs.specs.Calls.{runs_on, outcome, ending, finish};
 ghost use Rattle.frame.specs.View.{state_on};
 
 use crate::Frame;

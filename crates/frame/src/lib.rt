@@ -1,12 +1,11 @@
 // The frame: it steers one frame of a table's tasks over any board and any rule.
 #![tactic(auto)]
 
-ghost use Rattle.std.specs.Prelude.{◌≡◌, ◌<◌, ◌≤◌, length, replicate, if◌then◌else◌, Some, None, Ok, Err, nat_lt};
+ghost use Rattle.std.specs.Prelude.{◌≡◌, ◌<◌, ◌≤◌, length, if◌then◌else◌, Some, None, Ok, Err, nat_lt};
 ghost use Rattle.table.specs.View.{plan_of};
 ghost use Rattle.board.specs.Steps.{is_over};
 ghost use Rattle.board.specs.Meaning.{step_of};
 ghost use Rattle.calls.specs.declared.Refusal.TheVariants.{NoSuchCore, BadTime};
-ghost use Rattle.runs.specs.Records.{fresh};
 ghost use Rattle.runs.specs.Calls.{opening, next_of, next_row, timely};
 ghost use Rattle.frame.specs.View.{state_on, Within};
 
