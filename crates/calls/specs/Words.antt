@@ -1,5 +1,5 @@
 -- The words and numbers of the replies.
-use Rattle.std.specs.Prelude.{ℕ, List, ◌++◌, Some, None, codes, decimal, Option}
+use Rattle.std.specs.Prelude.{ℕ, List, ◌++◌, Some, None, Ok, Err, codes, decimal, Option, Result}
 use Rattle.calls.specs.declared.Answer.{Answer}
 use Rattle.calls.specs.declared.Answer.TheVariants.{Over, Go, Loose, Data, Hold}
 use Rattle.calls.specs.declared.Refusal.{Refusal}
@@ -36,8 +36,23 @@ abbrev pub word_with : List ℕ → Option ℕ → List ℕ
 word_with w None = w
 word_with w (Some n) = w ++ (codes " " ++ decimal n)
 
--- the line that tells a reply
+-- the line that tells an answer, a refusal, a reply
+abbrev pub answer_line : Answer → List ℕ
+answer_line a = word_with (word_of a) (task_of a)
+
+abbrev pub refusal_line : Refusal → List ℕ
+refusal_line r = word_with (codes "no") (Some (number_of r))
+
 abbrev pub line_of : Reply → List ℕ
-line_of (Told a) = word_with (word_of a) (task_of a)
+line_of (Told a) = answer_line a
 line_of Noted = codes "ok"
-line_of (Refused r) = word_with (codes "no") (Some (number_of r))
+line_of (Refused r) = refusal_line r
+
+-- the result of an ask, of a finish, as a reply
+abbrev pub told : Result Answer Refusal → Reply
+told (Ok a) = Told a
+told (Err r) = Refused r
+
+abbrev pub noted : {U : Type 0} → Result U Refusal → Reply
+noted (Ok u) = Noted
+noted (Err r) = Refused r

@@ -2,7 +2,7 @@
 #![tactic(auto)]
 
 ghost use Rattle.std.specs.Prelude.{◌≡◌, Some};
-ghost use Rattle.calls.specs.Words.{word_of, task_of, number_of, line_of};
+ghost use Rattle.calls.specs.Words.{word_of, task_of, number_of, answer_line, refusal_line, line_of, told, noted};
 
 use std::fmt;
 
@@ -98,23 +98,59 @@ pub enum Reply {
     Refused(Refusal),
 }
 
+// The result of an ask, as a reply.
+impl From<Result<Answer, Refusal>> for Reply {
+    ghost from_gives = { λ outcome reply. reply ≡ told outcome };
+
+    fn from(outcome: Result<Answer, Refusal>) -> Reply {
+        match outcome {
+            Ok(answer) => Reply::Told(answer),
+            Err(refusal) => Reply::Refused(refusal),
+        }
+    }
+}
+
+// The result of a finish, as a reply.
+impl From<Result<(), Refusal>> for Reply {
+    ghost from_gives = { λ outcome reply. reply ≡ noted outcome };
+
+    fn from(outcome: Result<(), Refusal>) -> Reply {
+        match outcome {
+            Ok(()) => Reply::Noted,
+            Err(refusal) => Reply::Refused(refusal),
+        }
+    }
+}
+
+impl fmt::Display for Answer {
+    ghost output = { λ answer. Some (answer_line answer) };
+
+    fn fmt<W: fmt::Write>(&self, f: &mut fmt::Formatter<W>) -> fmt::Result {
+        let word = self.word();
+        match self.task() {
+            Some(task) => write!(f, "{word} {task}"),
+            None => write!(f, "{word}"),
+        }
+    }
+}
+
+impl fmt::Display for Refusal {
+    ghost output = { λ refusal. Some (refusal_line refusal) };
+
+    fn fmt<W: fmt::Write>(&self, f: &mut fmt::Formatter<W>) -> fmt::Result {
+        let number = self.number();
+        write!(f, "no {number}")
+    }
+}
+
 impl fmt::Display for Reply {
     ghost output = { λ reply. Some (line_of reply) };
 
     fn fmt<W: fmt::Write>(&self, f: &mut fmt::Formatter<W>) -> fmt::Result {
-        match *self {
-            Reply::Told(answer) => {
-                let word = answer.word();
-                match answer.task() {
-                    Some(task) => write!(f, "{word} {task}"),
-                    None => write!(f, "{word}"),
-                }
-            }
+        match self {
+            Reply::Told(answer) => write!(f, "{answer}"),
             Reply::Noted => write!(f, "ok"),
-            Reply::Refused(refusal) => {
-                let number = refusal.number();
-                write!(f, "no {number}")
-            }
+            Reply::Refused(refusal) => write!(f, "{refusal}"),
         }
     }
 }

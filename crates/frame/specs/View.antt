@@ -1,11 +1,8 @@
 -- What a frame value stands for.
-use Rattle.std.specs.Prelude.{ℕ, ◌<◌, List, length, take, Some, None, Ok, Err, Option, Result}
+use Rattle.std.specs.Prelude.{ℕ, ◌<◌, List, length, take, Some, None, Option}
 use Rattle.table.specs.Rows.{Plan}
+use Rattle.board.specs.declared.Board.{Ghosts}
 use Rattle.board.specs.declared.cores.Core.{Core}
-use Rattle.calls.specs.declared.Answer.{Answer}
-use Rattle.calls.specs.declared.Refusal.{Refusal}
-use Rattle.calls.specs.declared.Reply.{Reply}
-use Rattle.calls.specs.declared.Reply.TheVariants.{Told, Noted, Refused}
 use Rattle.calls.specs.declared.Call.{Call}
 use Rattle.runs.specs.Calls.{State}
 use Rattle.runs.specs.declared.Event.{Event}
@@ -20,14 +17,9 @@ state_of plan progress f = record {
   records = take (length (plan f.board).rows) f.records;
 }
 
--- the result of an ask, of a finish, as a reply
-abbrev pub told : Result Answer Refusal → Reply
-told (Ok a) = Told a
-told (Err r) = Refused r
-
-abbrev pub noted : {U : Type 0} → Result U Refusal → Reply
-noted (Ok u) = Noted
-noted (Err r) = Refused r
+-- the same, where g is all that the bound of its board says
+abbrev pub state_on : {B R : Type 0} → Ghosts B → Frame B R → State
+state_on g f = state_of g.plan g.progress f
 
 -- the call of an event
 abbrev pub call_of : Event → Call
