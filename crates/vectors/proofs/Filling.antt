@@ -1,6 +1,9 @@
 -- An array that a loop fills by a function of the place, and a set of cores that a loop fills by a test.
-use Rattle.std.proofs.Common.{◌≡◌, ℕ, ◌+◌, ◌<◌, ◌≤◌, Bool, true, false, ◌&&◌, ◌||◌, eqb, ltb, List, [], ◌∷◌, ◌++◌, map, length, get_or, take, set, is_some, None, Option, sym, ap, ◌∙◌, ⊎_elim, arith}
+use Rattle.std.proofs.Common.{◌≡◌, ℕ, zero, suc, ◌+◌, ◌<◌, ◌≤◌, Bool, true, false, ◌&&◌, ◌||◌, eqb, ltb, List, [], ◌∷◌, ◌++◌, map, length, get_or, take, set, is_some, None, Option, sym, ap, ◌∙◌, refl, subst, ⊎_elim, arith}
 use Rattle.std.specs.List.{range_with_len}
+use Rattle.std.specs.Array.{IsFromFnResult, IsFromFnResultFrom}
+use Rattle.std.specs.Fn.{Called}
+use denote.Param.Members.{Mut}
 use Rattle.std.proofs.lemmas.List.{length-set, take_more_set, take_all}
 use Rattle.std.proofs.lemmas.List.FromFn.{length-map-range_with_len, get_or-map-range_with_len, map-range_with_len_more, fill_by_all}
 use Rattle.std.proofs.lemmas.Bool.{cases_lt, cases_eq, lt-ltb, le-ltb, eq-eqb, ne_eqb}
@@ -9,24 +12,18 @@ use Rattle.table.specs.declared.rows.CoreSet.{CoreSet}
 use Rattle.table.proofs.Sets.{bits_below, has_none, set_at}
 use Rattle.table.proofs.Masks.{set_is}
 
--- an array of n places, of which the first i hold what f gives for them
-abbrev pub Filled : {X : Type 0} → (ℕ → X) → ℕ → ℕ → List X → Type 0
-Filled f n i xs = (length xs ≡ n) × (take i xs ≡ map f (range_with_len 0 i))
-
--- one place more, and all places
-pub fill_next : {X : Type 0} (f : ℕ → X) (n i j : ℕ) (x : X) (xs : List X) → Filled f n i xs → i < n → j ≡ i → x ≡ f i → Filled f n (i + 1) (set xs j x)
-fill_next f n i j x xs h l at is = (
-  length-set xs j x ∙ h.0,
-  ap (λ k. take (i + 1) (set xs k x)) at
-      ∙ (take_more_set xs i x (omega (arith, h.0, l))
-      ∙ (ap (λ ys. ys ++ (x ∷ [])) h.1 ∙ (ap (λ y. map f (range_with_len 0 i) ++ (y ∷ [])) is ∙ sym (map-range_with_len_more f 0 i i (omega arith))))),
-)
-
-pub fill_last : {X : Type 0} (f : ℕ → X) (n i : ℕ) (xs : List X) → Filled f n i xs → n ≤ i → xs ≡ map f (range_with_len 0 n)
-fill_last f n i xs h l =
-    let all : xs ≡ map f (range_with_len 0 i) = sym (take_all i xs (omega (arith, h.0, l))) ∙ h.1 in
-    let e : i ≡ n = omega (arith, h.0, ap length all, length-map-range_with_len f 0 i) in
-    all ∙ ap (λ m. map f (range_with_len 0 m)) e
+-- an array that a closure fills, called at each place, is what h gives for the places: no call changes the closure
+pub from_fn_is : {F X : Type 0} {g : Mut F (ℕ × Unit {0}) X} {f : F} {n : ℕ} (h : ℕ → X) (xs : List X) → IsFromFnResult g f xs n → ((i : ℕ) (x : X) (q : F) → Called g f (i, tt) x q → (q ≡ f) × (x ≡ h i)) → xs ≡ map h (range_with_len 0 n)
+from_fn_is {F} {X} {g} {f} {n} h xs made called = fill_by_all h xs n (h 0) made.long (λ i l. at 0 n f refl made.each i (omega arith) (omega arith))
+  where
+    at : (a m : ℕ) (p : F) → p ≡ f → IsFromFnResultFrom g p xs a m → (i : ℕ) → a ≤ i → i < a + m → get_or xs i (h 0) ≡ h i
+    at a zero p e r i u v = absurd (omega arith)
+    at a (suc m) p e r i u v =
+        let one = called a r.1 r.0 (subst (λ s. Called g s (a, tt) r.1 r.0) e r.3) in
+        ⊎_elim
+        (λ d. subst (λ j. get_or xs j (h 0) ≡ h j) (sym d) (r.2.1 (h 0) ∙ one.1))
+        (λ d. at (a + 1) m r.0 one.0 r.4 i (omega arith) (omega arith))
+        (cases_eq i a)
 
 -- what stands in a filled array of arrays
 pub read_both : {X : Type 0} (f : ℕ → ℕ → X) (n m i j : ℕ) (d : X) → i < n → j < m → get_or (get_or (map (λ x. map (f x) (range_with_len 0 m)) (range_with_len 0 n)) i []) j d ≡ f i j

@@ -18,12 +18,13 @@ use Rattle.board.specs.Steps.{is_over}
 use Rattle.board.specs.Standing.{progress_at}
 use Rattle.board.specs.Meaning.{clear, easable, ended_on, step_of, next, next_task}
 use Rattle.board.specs.Keeping.{progress_lawful, left_at}
-use Rattle.vectors.specs.Links.{completer, following, links_of, completer_of, following_of}
+use Rattle.vectors.specs.Links.{completer, following, task_links, links_of, no_links, links_at, completer_of, following_of}
 use Rattle.vectors.specs.Phases.{Standing, ready_of, status_of, set_ready, hand_on, drops, drop_bit, ease_vectors, vectors_clear, vectors_easable}
 use Rattle.vectors.specs.Linked.{dropped, drop_linked, ease_linked}
 use Rattle.vectors.specs.Reached.{Reached, at_opening, by_easing, by_start, by_end}
 use Rattle.vectors.specs.View.{plan_on, standing_of}
 use Rattle.vectors.specs.declared.vector_board.VectorBoard.{VectorBoard}
+use Rattle.vectors.specs.declared.state.TaskLinks.{TaskLinks}
 use Rattle.vectors.specs.declared.state.Vectors.{Vectors}
 use Rattle.table.proofs.Ordered.{Ordered, ordered}
 use Rattle.vectors.proofs.Agree.{Agree, clear_right, easable_right}
@@ -50,12 +51,14 @@ pub easable_means : (b : VectorBoard) (k : ℕ) → vectors_easable (plan_on b) 
 easable_means b k = ∥∥₁_elim b.reached (Bool-set _ _) (λ r. easable_right (plan_on b) (board_ordered b) (standing_of b) (agree_reached (plan_on b) (board_ordered b) (standing_of b) r) k)
 
 -- what a board looks up of its table
-completer_at : (p : Plan) (t k : ℕ) → t < 384 → k < 8 → completer_of (links_of p) t k ≡ completer p t k
-completer_at p t k l m =
-    ap (λ xs. get_or xs k None) (get_or-map-range_with_len (λ t. map (completer p t) (range_with_len 0 8)) 0 384 t t [] l (omega arith)) ∙ get_or-map-range_with_len (completer p t) 0 8 k k None m (omega arith)
+links_of_at : (p : Plan) (t : ℕ) → t < 384 → links_at (links_of p) t ≡ task_links p t
+links_of_at p t l = get_or-map-range_with_len (task_links p) 0 384 t t no_links l (omega arith)
+
+pub completer_at : (p : Plan) (t k : ℕ) → t < 384 → k < 8 → completer_of (links_of p) t k ≡ completer p t k
+completer_at p t k l m = ap (λ (x : TaskLinks). get_or x.completers k None) (links_of_at p t l) ∙ get_or-map-range_with_len (completer p t) 0 8 k k None m (omega arith)
 
 following_at : (p : Plan) (t : ℕ) → t < 384 → following_of (links_of p) t ≡ following p t
-following_at p t l = get_or-map-range_with_len (following p) 0 384 t t None l (omega arith)
+following_at p t l = ap (λ (x : TaskLinks). x.following) (links_of_at p t l)
 
 and_assoc : (x y z : Bool) → ((x && y) && z) ≡ (x && (y && z))
 and_assoc true y z = refl

@@ -1,10 +1,10 @@
 ghost use Rattle.std.specs.Prelude.{◌≡◌, Some, slice_set};
-ghost use Rattle.vectors.specs.Links.{completer_of, following_of};
+ghost use Rattle.vectors.specs.Links.{completer_of, following_of, links_at};
 ghost use Rattle.vectors.specs.Linked.{drop_linked, dropped, ease_linked};
 ghost use Rattle.vectors.specs.Phases.{end_vectors, hand_on, notice, noticed, notify_of, ready_of, retarget, set_notify, set_ready, set_status, set_target, start_vectors, status_of, target_of, unready, withdraw};
 
 use crate::slots::{entry, put};
-use crate::state::{Links, Vectors};
+use crate::state::{Links, TaskLinks, Vectors};
 use table::rows::CoreSet;
 
 // The targets of a task with another one on the core.
@@ -15,23 +15,33 @@ fn with_target(mut targets: [Option<u16>; 8], core: u32, to: u16) -> [Option<u16
     targets
 }
 
+impl TaskLinks {
+    const NONE: TaskLinks = TaskLinks {
+        completers: [None; 8],
+        following: None,
+    };
+}
+
 impl Links {
+    // What is known of the task, nothing if there can be no such task.
+    fn at(&self, task: u16) -> TaskLinks
+        ensures { result ≡ links_at self.now task }
+    {
+        entry(&self.tasks, usize::from(task), TaskLinks::NONE)
+    }
+
     // The task of the core that completes the task's wait there.
     pub(crate) fn completer(&self, task: u16, core: u32) -> Option<u16>
         ensures { result ≡ completer_of self.now task core }
     {
-        entry(
-            &entry(&self.completers, usize::from(task), [None; 8]),
-            core as usize,
-            None,
-        )
+        entry(&self.at(task).completers, core as usize, None)
     }
 
     // The task after the task on its core.
     pub(crate) fn following(&self, task: u16) -> Option<u16>
         ensures { result ≡ following_of self.now task }
     {
-        entry(&self.followings, usize::from(task), None)
+        self.at(task).following
     }
 }
 

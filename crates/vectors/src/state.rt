@@ -14,10 +14,16 @@ pub struct Vectors {
     pub(crate) status: [CoreSet; 8],
 }
 
-// What depends on the table alone, for every task that a table can have: for each core the task that completes its wait
-// there, and the task after it on its own core.
+// What depends on the table alone, of one task: for each core the task that completes its wait there, and the task
+// after it on its own core.
+#[derive(Clone, Copy)]
+pub(crate) struct TaskLinks {
+    pub(crate) completers: [Option<u16>; 8],
+    pub(crate) following: Option<u16>,
+}
+
+// So for every task that a table can have.
 #[derive(Clone, Copy)]
 pub struct Links {
-    pub(crate) completers: [[Option<u16>; 8]; 384],
-    pub(crate) followings: [Option<u16>; 384],
+    pub(crate) tasks: [TaskLinks; 384],
 }
