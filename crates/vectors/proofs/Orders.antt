@@ -3,7 +3,7 @@ use Rattle.std.proofs.Common.{◌≡◌, ℕ, ◌<◌, Bool, true, false, cond, 
 use mathlib.Core.Logic.{∥∥₁_map}
 use Rattle.std.proofs.lemmas.Bool.{and_parts, cond-true, cond-false}
 use Rattle.table.specs.Rows.{Plan, row}
-use Rattle.table.specs.declared.rows.Row.{Row}
+use Rattle.table.specs.declared.rows.CoreSet.{CoreSet}
 use Rattle.table.proofs.Tables.{few_rows, nth_within}
 use Rattle.board.specs.Steps.{is_waiting, is_pending, is_running, is_over}
 use Rattle.board.specs.Standing.{plan_at, progress_at, loosened, launched}
@@ -71,12 +71,12 @@ module _ (b : VectorBoard) (k : ℕ) where
         ∙ sym (cond-true (vectors_clear (plan_on b) (standing_of b) k) _ _ h.0))
 
     pub eased_standing : Some t ≡ task_if (vectors_easable (plan_on b) (standing_of b) k) (plan_on b) (standing_of b) k → progress_at x ≡ loosened (standing_of b).progress k →
-        (r : Row) → r ≡ row (plan_on b) t → v ≡ ease_linked 8 b.links (dropped b.vectors k t r.inputs) b.vectors k t → standing (progress_at x) v ≡ board_eased (plan_on b) (standing_of b) k
-    eased_standing some e r i f =
+        (inputs : CoreSet) → inputs ≡ (row (plan_on b) t).inputs → v ≡ ease_linked 8 b.links (dropped b.vectors k t inputs) b.vectors k t → standing (progress_at x) v ≡ board_eased (plan_on b) (standing_of b) k
+    eased_standing some e inputs i f =
         let h = some_task (vectors_easable (plan_on b) (standing_of b) k) (plan_on b) (standing_of b) k t some in
         let small : t < 384 = omega (arith, h.1, next_small b k (waiting_left _ (easable_waiting h.0))) in
-        let linked = ap (λ (l : Links). ease_linked 8 l (dropped b.vectors k t r.inputs) b.vectors k t) b.linked in
-        let rowed = ap (λ (q : Row). ease_linked 8 (links_of (plan_on b)) (dropped b.vectors k t q.inputs) b.vectors k t) i in
+        let linked = ap (λ (l : Links). ease_linked 8 l (dropped b.vectors k t inputs) b.vectors k t) b.linked in
+        let rowed = ap (λ (s : CoreSet). ease_linked 8 (links_of (plan_on b)) (dropped b.vectors k t s) b.vectors k t) i in
         ap (λ cs. standing cs v) (e ∙ cond-true (is_waiting (step_of (standing_of b).progress k)) _ _ (easable_waiting h.0))
         ∙ (ap (standing (stepped (standing_of b).progress k Loose)) (f ∙ (linked ∙ (rowed ∙ (ease_is (plan_on b) b.vectors k t 8 small (omega arith) ∙ ap (ease_vectors 8 (plan_on b) b.vectors k) h.1))))
         ∙ sym (cond-true (vectors_easable (plan_on b) (standing_of b) k) _ _ h.0))

@@ -15,11 +15,9 @@ use table::rows::CoreSet;
 fn preceding(table: &Table, task: u16) -> Option<u16>
     ensures { result ≡ (if nat_eq (place (plan_of table.now) task) 0 then None else named (nth_on (row (plan_of table.now) task).core (place (plan_of table.now) task - 1) 0 (plan_of table.now).rows)) }
 {
-    let place = table.place(task);
-    if place == 0 {
-        return None;
-    }
-    table.nth_on(u32::from(table.row(task).core), place - 1)
+    let core = u32::from(table.row(task).core);
+    let place = table.place(task).checked_sub(1)?;
+    table.nth_on(core, place)
 }
 
 // The task after this one on its core, if there is one.
@@ -33,10 +31,7 @@ fn following(table: &Table, task: u16) -> Option<u16>
 fn wait_before(table: &Table, task: u16, core: u32) -> u16
     ensures { result ≡ wait_before (plan_of table.now) task core }
 {
-    match preceding(table, task) {
-        Some(before) => table.wait(before, core),
-        None => 0,
-    }
+    preceding(table, task).map_or(0, |before| table.wait(before, core))
 }
 
 // Does the task begin to wait on the core: does its wait there exceed that of the task before it?
