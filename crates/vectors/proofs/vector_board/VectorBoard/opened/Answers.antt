@@ -9,13 +9,8 @@ use Rattle.vectors.proofs.vector_board.VectorBoard.opened.Goals as goal
 pub invariant_of-result : goal.invariant_of-result
 invariant_of-result c =
     let p = plan_of c.args.table.now in
-    let x = c.open.new.self in record { reached = reached_first p x c.first_vectors-vectors.result c.open.ensures.plan c.open.ensures.progress c.first_vectors-vectors.ensures; linked = c.links-links.ensures ∙ ap links_of (sym c.open.ensures.plan) }
+    let x = c.open.new.self in
+    record { reached = reached_first p x c.first_vectors-vectors.result c.open.ensures.plan c.open.ensures.progress c.first_vectors-vectors.ensures; linked = c.links-links.ensures ∙ ap links_of (sym c.open.ensures.plan) }
 
-pub returns : goal.returns
-returns c = record {
-  plan = c.open.ensures.plan;
-  standing = ap (λ cs. standing cs c.first_vectors-vectors.result) c.open.ensures.progress ∙ ap (standing (opened (plan_of c.args.table.now))) c.first_vectors-vectors.ensures;
-}
-
-pub first_vectors-vectors-requires : goal.first_vectors-vectors-requires
-first_vectors-vectors-requires c = c.links-links.ensures
+pub returns-clause-standing : goal.returns-clause-standing
+returns-clause-standing c = ap (λ cs. standing cs c.first_vectors-vectors.result) c.open.ensures.progress ∙ ap (standing (opened (plan_of c.args.table.now))) c.first_vectors-vectors.ensures
