@@ -7,7 +7,7 @@ use Rattle.table.specs.Sets.{has, none, with, without}
 use Rattle.table.specs.Rows.{Plan, row, named, wait}
 use Rattle.table.proofs.Tables.{nth_within}
 use Rattle.board.specs.Steps.{is_waiting}
-use Rattle.board.specs.Meaning.{idle, ended_on, step_of, next, met, stepped, eased}
+use Rattle.board.specs.Meaning.{idle, ended_on, step_of, next, met, stepped}
 use Rattle.board.specs.declared.cores.Core.{Core}
 use Rattle.board.specs.declared.cores.Step.TheVariants.{Loose}
 use Rattle.board.specs.Keeping.{waiting_left}
@@ -17,8 +17,8 @@ use Rattle.vectors.proofs.Pair.{Kept, Alike, alike, alike_self, drop_kept_off, d
 use Rattle.vectors.proofs.Entries.{off_same, off_other, off_keeps, on_same, on_other, entry_same, entry_other}
 use Rattle.table.proofs.Ordered.{Ordered, nth_some, nth_past}
 use Rattle.vectors.proofs.Places.{nth, tasks, nth_one, nth_only, following_is}
-use Rattle.vectors.proofs.Agree.{Shaped, Starts, Pair, Agree, waits, bits, waits_rise, waiting_from, easing_each, easable_right}
-use Rattle.vectors.proofs.Started.{either_progress, stepped_here, stepped_there, stepped_ended, stepped_left}
+use Rattle.vectors.proofs.Agree.{Shaped, Starts, Pair, Agree, waits, bits, waits_rise, waiting_from, easing_each}
+use Rattle.vectors.proofs.Started.{stepped_here, stepped_there, stepped_ended, stepped_left}
 use Rattle.vectors.proofs.Finished.{apart, from_later}
 
 -- task t drops its ready bit j: core c is not told of the end of task x any more, or task y is told
@@ -358,10 +358,6 @@ module _ (p : Plan) (o : Ordered p) (cs : List Core) (v : Vectors) (s : Agree p 
 
       m : Mid p.cores (ease_vectors p.cores p v c (next p cs c))
       m = mid_all p.cores (omega arith)
-
--- an easing does to the progress what the meaning says
-pub progress_eased : (p : Plan) → Ordered p → (b : Standing) → Agree p b.progress b.vectors → (k : ℕ) → (board_eased p b k).progress ≡ eased p b.progress k
-progress_eased p o b s k = either_progress (vectors_easable p b k) b _ ∙ ap (λ x. cond x (stepped b.progress k Loose) b.progress) (easable_right p o b s k)
 
 -- an easing keeps the agreement
 pub agree_eased : (p : Plan) → Ordered p → (b : Standing) → Agree p b.progress b.vectors → (k : ℕ) → Agree p (board_eased p b k).progress (board_eased p b k).vectors

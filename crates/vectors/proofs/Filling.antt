@@ -1,12 +1,12 @@
 -- An array that a loop fills by a function of the place, and a set of cores that a loop fills by a test.
-use Rattle.std.proofs.Common.{◌≡◌, ℕ, zero, suc, ◌+◌, ◌<◌, ◌≤◌, Bool, true, false, ◌&&◌, ◌||◌, eqb, ltb, List, [], ◌∷◌, ◌++◌, map, length, get_or, take, set, is_some, None, Option, sym, ap, ◌∙◌, refl, subst, ⊎_elim, arith}
+use Rattle.std.proofs.Common.{◌≡◌, ℕ, zero, suc, ◌+◌, ◌<◌, ◌≤◌, Bool, true, false, ◌&&◌, ◌||◌, eqb, ltb, List, [], map, get_or, is_some, None, Option, sym, ap, ◌∙◌, refl, subst, ⊎_elim, arith}
 use Rattle.std.specs.List.{range_with_len}
 use Rattle.std.specs.Array.{IsFromFnResult, IsFromFnResultFrom}
 use Rattle.std.specs.Fn.{Called}
 use denote.Param.Members.{Mut}
-use Rattle.std.proofs.lemmas.List.{length-set, take_more_set, take_all}
-use Rattle.std.proofs.lemmas.List.FromFn.{length-map-range_with_len, get_or-map-range_with_len, map-range_with_len_more, fill_by_all}
-use Rattle.std.proofs.lemmas.Bool.{cases_lt, cases_eq, lt-ltb, le-ltb, eq-eqb, ne_eqb}
+use Rattle.std.proofs.lemmas.List.FromFn.{length-map-range_with_len, get_or-map-range_with_len, fill_by_all}
+use Rattle.std.proofs.lemmas.Bool.Decides.{nat_tests}
+use Rattle.std.proofs.lemmas.Bool.{cases_eq, le-ltb}
 use Rattle.table.specs.Sets.{has, set_of, none, with}
 use Rattle.table.specs.declared.rows.CoreSet.{CoreSet}
 use Rattle.table.proofs.Sets.{bits_below, has_none, set_at}
@@ -45,31 +45,16 @@ gathered f k = set_of (λ j. ltb j k && f j)
 pub gather_first : (f : ℕ → Bool) → none ≡ gathered f 0
 gather_first f = set_is none (λ j. ltb j 0 && f j) (omega arith) (λ j l. has_none j ∙ sym (ap (λ b. b && f j) (le-ltb j 0 (omega arith))))
 
--- below k + 1 and below k the test is the same but at k
-further : (f : ℕ → Bool) (k j : ℕ) → (j ≡ k → ⊥) → (ltb j (k + 1) && f j) ≡ (ltb j k && f j)
-further f k j n = ap (λ b. b && f j) (⊎_elim
-    (λ l. lt-ltb j (k + 1) (omega arith) ∙ sym (lt-ltb j k l))
-    (λ l. le-ltb j (k + 1) (omega arith) ∙ sym (le-ltb j k l))
-    (cases_lt j k))
-
-here : (f : ℕ → Bool) (k : ℕ) → (ltb k (k + 1) && f k) ≡ f k
-here f k = ap (λ b. b && f k) (lt-ltb k (k + 1) (omega arith))
-
 -- one core more, and all cores
 pub gather_yes : (f : ℕ → Bool) (k : ℕ) (s : CoreSet) → s ≡ gathered f k → f k ≡ true → with s k ≡ gathered f (k + 1)
-gather_yes f k s h y = set_same (λ j. eqb j k || has s j) (λ j. ltb j (k + 1) && f j) (λ j l. ⊎_elim
-    (λ e. ap (λ b. b || has s j) (eq-eqb j k e) ∙ sym (ap (λ i. ltb i (k + 1) && f i) e ∙ (here f k ∙ y)))
-    (λ n. ap (λ b. b || has s j) (ne_eqb j k n) ∙ (ap (λ t. has t j) h ∙ (set_at (λ i. ltb i k && f i) j l ∙ sym (further f k j n))))
-    (cases_eq j k))
+gather_yes f k s h y = set_same (λ j. eqb j k || has s j) (λ j. ltb j (k + 1) && f j)
+    (λ j l. ap (λ t. eqb j k || has t j) h ∙ (ap (λ b. eqb j k || b) (set_at (λ i. ltb i k && f i) j l) ∙ ⊎_elim (λ e. rw e (grind (arith, nat_tests))) (λ n. grind (arith, nat_tests)) (cases_eq j k)))
 
 pub gather_no : (f : ℕ → Bool) (k : ℕ) (s : CoreSet) → s ≡ gathered f k → f k ≡ false → s ≡ gathered f (k + 1)
-gather_no f k s h y = h ∙ set_same (λ j. ltb j k && f j) (λ j. ltb j (k + 1) && f j) (λ j l. ⊎_elim
-    (λ e. ap (λ i. ltb i k && f i) e ∙ (ap (λ b. b && f k) (le-ltb k k (omega arith)) ∙ sym (ap (λ i. ltb i (k + 1) && f i) e ∙ (here f k ∙ y))))
-    (λ n. sym (further f k j n))
-    (cases_eq j k))
+gather_no f k s h y = h ∙ set_same (λ j. ltb j k && f j) (λ j. ltb j (k + 1) && f j) (λ j l. ⊎_elim (λ e. rw e (grind (arith, nat_tests))) (λ n. grind (arith, nat_tests)) (cases_eq j k))
 
 pub gather_last : (f : ℕ → Bool) (k : ℕ) (s : CoreSet) → s ≡ gathered f k → 8 ≤ k → s ≡ set_of f
-gather_last f k s h l = h ∙ set_same (λ j. ltb j k && f j) f (λ j m. ap (λ b. b && f j) (lt-ltb j k (omega arith)))
+gather_last f k s h l = h ∙ set_same (λ j. ltb j k && f j) f (λ j m. grind (arith, nat_tests))
 
 -- place k holds a task
 abbrev pub some_at : List (Option ℕ) → ℕ → Bool

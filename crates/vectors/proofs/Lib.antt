@@ -1,6 +1,5 @@
 pub mod Filling
 pub mod Ranges
-pub mod Tells
 pub mod Places
 pub mod Pair
 pub mod Entries

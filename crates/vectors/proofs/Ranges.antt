@@ -3,7 +3,6 @@ use Rattle.std.proofs.Common.{◌≡◌, ℕ, zero, suc, ◌+◌, Bool, cond, So
 use Rattle.std.proofs.iter.Yields.{nat_range_steps}
 use Rattle.std.proofs.lemmas.Iterator.{YieldsList, YieldsList-from_range}
 use Rattle.std.specs.List.{range_with_len, find}
-use Rattle.std.specs.declared.ops.Range.{Range}
 use Rattle.table.specs.Below.{first_from}
 
 -- what `find` answers over n numbers from i on

@@ -1,17 +1,14 @@
 -- What holds of every vector board, since its state is one that orders lead to.
-use Rattle.std.proofs.Common.{◌≡◌, ℕ, zero, suc, ◌<◌, ◌≤◌, Bool, true, false, cond, not, ◌&&◌, [], map, get_or, is_some, Some, None, Option, sym, refl, ap, ◌∙◌, arith}
+use Rattle.std.proofs.Common.{◌≡◌, ℕ, zero, suc, ◌<◌, ◌≤◌, Bool, true, false, cond, not, ◌&&◌, get_or, is_some, Some, None, Option, sym, refl, ap, ◌∙◌, arith}
 use mathlib.Core.Bool.{Bool-set}
 use mathlib.Core.Logic.{∥∥₁_elim}
+use Rattle.std.proofs.Math.Bool.{not-not, and_assoc}
 use Rattle.std.specs.Bool.{then_some}
-use Rattle.std.specs.List.{range_with_len}
 use Rattle.std.proofs.lemmas.List.FromFn.{get_or-map-range_with_len}
 use Rattle.table.specs.Sets.{has, without, less}
 use Rattle.table.specs.Rows.{Plan, row}
 use Rattle.table.specs.Below.{any_below}
-use Rattle.table.specs.View.{plan_of}
-use Rattle.table.specs.declared.lawful.Table.{Table}
 use Rattle.table.specs.declared.rows.CoreSet.{CoreSet}
-use Rattle.table.specs.declared.rows.Row.{Row}
 use Rattle.table.proofs.Below.{any_same}
 use Rattle.table.proofs.Sets.{less_at}
 use Rattle.table.proofs.Tables.{named_some}
@@ -64,10 +61,6 @@ completer_at p t k l m = ap (λ (x : TaskLinks). get_or x.completers k None) (li
 following_at : (p : Plan) (t : ℕ) → t < 384 → following_of (links_of p) t ≡ following p t
 following_at p t l = ap (λ (x : TaskLinks). x.following) (links_of_at p t l)
 
-and_assoc : (x y z : Bool) → ((x && y) && z) ≡ (x && (y && z))
-and_assoc true y z = refl
-and_assoc false y z = refl
-
 pub dropped_at : (p : Plan) (v : Vectors) (k t j : ℕ) → j < 8 → has (dropped v k t (row p t).inputs) j ≡ drops p v k t j
 dropped_at p v k t j l =
     less_at (less (ready_of v t) (status_of v k)) (row p t).inputs j l
@@ -89,16 +82,12 @@ ease_is p v k t (suc j) l m =
         let w : Vectors = set_ready u t (without (ready_of u t) j) in
         ap (λ (f : Option ℕ). hand_on w f k (completer_of (links_of p) t j) j) (following_at p t l) ∙ ap (λ (x : Option ℕ). hand_on w (following p t) k x j) (completer_at p t j l (omega arith))
 
-not_not : (x : Bool) → not (not x) ≡ x
-not_not true = refl
-not_not false = refl
-
 -- some bit is dropped, as the code asks it
 pub some_dropped : (b : VectorBoard) (k t : ℕ) (inputs d : CoreSet) → inputs ≡ (row (plan_on b) t).inputs → d ≡ dropped b.vectors k t inputs →
     not (not (any_below 8 (has d))) ≡ any_below 8 (drops (plan_on b) b.vectors k t)
 some_dropped b k t inputs d f g =
     let is : d ≡ dropped b.vectors k t (row (plan_on b) t).inputs = g ∙ ap (dropped b.vectors k t) f in
-    not_not (any_below 8 (has d)) ∙ any_same 8 (has d) (drops (plan_on b) b.vectors k t) (λ j l. ap (λ (x : CoreSet). has x j) is ∙ dropped_at (plan_on b) b.vectors k t j l)
+    not-not (any_below 8 (has d)) ∙ any_same 8 (has d) (drops (plan_on b) b.vectors k t) (λ j l. ap (λ (x : CoreSet). has x j) is ∙ dropped_at (plan_on b) b.vectors k t j l)
 
 -- the next task, if the answer is yes; without one the answer is no
 pub next_if : (y z : Bool) (b : VectorBoard) (k t : ℕ) → y ≡ z → Some t ≡ next_task (plan_on b) (progress_at b.progress) k → then_some y t ≡ task_if z (plan_on b) (standing_of b) k

@@ -1,4 +1,4 @@
-use Rattle.std.proofs.Common.{◌≡◌, sym, ◌∙◌, arith}
+use Rattle.std.proofs.Common.{sym, ◌∙◌, arith}
 use Rattle.vectors.proofs.Filling.{gather_first, gather_yes, gather_no, gather_last}
 use Rattle.vectors.proofs.opening.cores_where.Goals as goal
 use Rattle.vectors.proofs.opening.cores_where.Goals.{then-test, else-test}

@@ -1,17 +1,15 @@
-use Rattle.std.proofs.Common.{◌≡◌, ℕ, ◌<◌, Bool, true, false, ◌&&◌, eqb, get_or, Some, None, Option, sym, ap, ◌∙◌, arith}
+use Rattle.std.proofs.Common.{◌≡◌, ℕ, ◌<◌, true, false, ◌&&◌, eqb, get_or, Some, None, Option, sym, ap, ◌∙◌, arith}
 use Rattle.std.proofs.lemmas.Bool.{eq-eqb, eqb-true, ne_eqb, and_left, and_right}
 use Rattle.std.proofs.lemmas.List.FromFn.{get_or-map-range_with_len}
 use Rattle.std.specs.Option.{option_eq}
 use Rattle.table.specs.Rows.{Plan, on, row}
 use Rattle.table.specs.Sets.{has, none, set_of}
 use Rattle.table.specs.View.{plan_of}
-use Rattle.table.specs.declared.lawful.Table.{Table}
 use Rattle.table.specs.declared.rows.CoreSet.{CoreSet}
 use Rattle.table.specs.declared.rows.Row.{Row}
 use Rattle.table.proofs.Sets.{set_at}
 use Rattle.table.proofs.Tables.{core_below}
-use Rattle.vectors.specs.Links.{begins, completer, is_task, aims, links_of, completer_of}
-use Rattle.vectors.specs.Phases.{first_vectors}
+use Rattle.vectors.specs.Links.{begins, completer, is_task, completer_of}
 use Rattle.vectors.specs.declared.opening.Opening.{Opening}
 use Rattle.vectors.specs.declared.state.Links.{Links}
 use Rattle.vectors.proofs.Stands.{completer_at}

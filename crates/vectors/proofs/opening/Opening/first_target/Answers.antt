@@ -1,5 +1,4 @@
-use Rattle.std.proofs.Common.{rules, ◌∙◌, sym, ap, arith, length}
-use borrow.Author.Tests.{tests}
+use Rattle.std.proofs.Common.{rules, ◌∙◌, sym, ap, arith}
 use Rattle.std.proofs.lemmas.Iterator.{serves_from_Range}
 use Rattle.std.proofs.lemmas.Iterator.Search.{find_from_yields_List}
 use Rattle.std.proofs.lemmas.Iterator.Adapters.{option_map_id}

@@ -1,4 +1,4 @@
-use Rattle.std.proofs.Common.{◌≡◌, sym, ap, ◌∙◌}
+use Rattle.std.proofs.Common.{◌≡◌, sym, ◌∙◌}
 use Rattle.board.specs.Keeping.{pending_left}
 use Rattle.board.specs.Steps.{is_pending}
 use Rattle.board.proofs.Asking.{asked_from, asked_not, asked_none, over_pending}
