@@ -1,10 +1,10 @@
 -- An array that a loop fills by a function of the place, and a set of cores that a loop fills by a test.
-use Rattle.std.proofs.Common.{◌≡◌, ℕ, zero, suc, ◌+◌, ◌<◌, ◌≤◌, Bool, true, false, ◌&&◌, ◌||◌, eqb, ltb, List, [], map, get_or, is_some, None, Option, sym, ap, ◌∙◌, refl, subst, ⊎_elim, arith}
+use Rattle.std.proofs.Common.{◌≡◌, ℕ, zero, suc, ◌+◌, ◌<◌, ◌≤◌, Bool, true, false, ◌&&◌, ◌||◌, eqb, ltb, List, map, get_or, sym, ap, ◌∙◌, refl, subst, ⊎_elim, arith}
 use Rattle.std.specs.List.{range_with_len}
 use Rattle.std.specs.Array.{IsFromFnResult, IsFromFnResultFrom}
 use Rattle.std.specs.Fn.{Called}
 use denote.Param.Members.{Mut}
-use Rattle.std.proofs.lemmas.List.FromFn.{length-map-range_with_len, get_or-map-range_with_len, fill_by_all}
+use Rattle.std.proofs.lemmas.List.FromFn.{fill_by_all}
 use Rattle.std.proofs.lemmas.Bool.Decides.{nat_tests}
 use Rattle.std.proofs.lemmas.Bool.{cases_eq, le-ltb}
 use Rattle.table.specs.Sets.{has, set_of, none, with}
@@ -24,14 +24,6 @@ from_fn_is {F} {X} {g} {f} {n} h xs made called = fill_by_all h xs n (h 0) made.
         (λ d. subst (λ j. get_or xs j (h 0) ≡ h j) (sym d) (r.2.1 (h 0) ∙ one.1))
         (λ d. at (a + 1) m r.0 one.0 r.4 i (omega arith) (omega arith))
         (cases_eq i a)
-
--- what stands in a filled array of arrays
-pub read_both : {X : Type 0} (f : ℕ → ℕ → X) (n m i j : ℕ) (d : X) → i < n → j < m → get_or (get_or (map (λ x. map (f x) (range_with_len 0 m)) (range_with_len 0 n)) i []) j d ≡ f i j
-read_both f n m i j d l h = ap (λ xs. get_or xs j d) (get_or-map-range_with_len (λ x. map (f x) (range_with_len 0 m)) 0 n i i [] l (omega arith)) ∙ get_or-map-range_with_len (f i) 0 m j j d h (omega arith)
-
--- arrays filled by functions that agree
-pub fill_same : {X : Type 0} (f g : ℕ → X) (n : ℕ) → ((k : ℕ) → k < n → f k ≡ g k) → map f (range_with_len 0 n) ≡ map g (range_with_len 0 n)
-fill_same f g n h = fill_by_all g (map f (range_with_len 0 n)) n (f 0) (length-map-range_with_len f 0 n) (λ k l. get_or-map-range_with_len f 0 n k k (f 0) l (omega arith) ∙ h k l)
 
 -- sets by tests that agree
 pub set_same : (f g : ℕ → Bool) → ((j : ℕ) → j < 8 → f j ≡ g j) → set_of f ≡ set_of g
@@ -55,13 +47,3 @@ gather_no f k s h y = h ∙ set_same (λ j. ltb j k && f j) (λ j. ltb j (k + 1)
 
 pub gather_last : (f : ℕ → Bool) (k : ℕ) (s : CoreSet) → s ≡ gathered f k → 8 ≤ k → s ≡ set_of f
 gather_last f k s h l = h ∙ set_same (λ j. ltb j k && f j) f (λ j m. grind (arith, nat_tests))
-
--- place k holds a task
-abbrev pub some_at : List (Option ℕ) → ℕ → Bool
-some_at xs k = is_some (get_or xs k None)
-
--- the places at which the rows of a filled array of arrays hold a task
-pub told_all : (f : ℕ → ℕ → Option ℕ) (n : ℕ) (rows : List (List (Option ℕ))) → rows ≡ map (λ x. map (f x) (range_with_len 0 8)) (range_with_len 0 n) → map (λ x. set_of (some_at (get_or rows x []))) (range_with_len 0 n) ≡ map (λ x. set_of (λ k. is_some (f x k))) (range_with_len 0 n)
-told_all f n rows e =
-    fill_same (λ x. set_of (some_at (get_or rows x []))) (λ x. set_of (λ k. is_some (f x k))) n
-    (λ x l. set_same (some_at (get_or rows x [])) (λ k. is_some (f x k)) (λ k m. ap is_some (ap (λ (xs : List (List (Option ℕ))). get_or (get_or xs x []) k None) e ∙ read_both f n 8 x k None l m)))

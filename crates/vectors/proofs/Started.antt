@@ -122,9 +122,7 @@ module _ (p : Plan) (o : Ordered p) (cs : List Core) (v : Vectors) (s : Agree p 
   starts = record {
     long = length-set cs c _ ∙ s.long;
     shape = record {
-      ready = s.shape.ready;
-      notify = s.shape.notify;
-      target = s.shape.target;
+      tasks = s.shape.tasks;
       wide = s.shape.wide;
       status = length-set v.status c _ ∙ s.shape.status;
     };

@@ -4,9 +4,9 @@ ghost use Rattle.table.specs.Rows.{named, nth_on, row};
 ghost use Rattle.table.specs.Sets.{set_of};
 ghost use Rattle.table.specs.View.{plan_of};
 ghost use Rattle.vectors.specs.Links.{aims, begins, completer, first_target, following, links_of, place, task_links, wait_before};
-ghost use Rattle.vectors.specs.Phases.{first_vectors};
+ghost use Rattle.vectors.specs.Phases.{first_vectors, task_vectors};
 
-use crate::state::{Links, TaskLinks, Vectors};
+use crate::state::{Links, TaskLinks, TaskVectors, Vectors};
 use std::array;
 use table::lawful::Table;
 use table::rows::CoreSet;
@@ -104,7 +104,7 @@ struct Opening<'a> {
     // The ready vector of every task.
     ready: [CoreSet; 384],
     ghost linked: { links.now ≡ links_of (plan_of table.now) },
-    ghost begun: { ready ≡ (first_vectors (plan_of table.now)).ready },
+    ghost begun: { ready ≡ map (λ t. set_of (begins (plan_of table.now) t)) (range_with_len 0 384) },
 }
 
 impl Opening<'_> {
@@ -132,9 +132,32 @@ impl Opening<'_> {
     {
         array::from_fn(|k| self.first_target(task, k as u32))
     }
+
+    // The vectors of the task before the first start.
+    fn task_vectors(&self, task: u16) -> TaskVectors
+        requires { task < 384 }
+        ensures { result ≡ task_vectors (plan_of self.now.table.now) task }
+    {
+        let target = self.targets_of(task);
+        TaskVectors {
+            ready: self.ready[usize::from(task)],
+            notify: told(&target),
+            target,
+        }
+    }
+
+    // The vectors before the first start.
+    fn vectors(&self) -> Vectors
+        ensures { result ≡ first_vectors (plan_of self.now.table.now) }
+    {
+        Vectors {
+            tasks: array::from_fn(|t| self.task_vectors(t as u16)),
+            status: [CoreSet::NONE; 8],
+        }
+    }
 }
 
-// The vectors before the first start.
+// The vectors before the first start, by what was looked up of the table.
 pub(crate) fn first_vectors(table: &Table, links: &Links) -> Vectors
     requires { links.now ≡ links_of (plan_of table.now) }
     ensures { result ≡ first_vectors (plan_of table.now) }
@@ -144,16 +167,5 @@ pub(crate) fn first_vectors(table: &Table, links: &Links) -> Vectors
         links,
         ready: array::from_fn(|t| ready_vector(table, t as u16)),
     };
-    let target = array::from_fn(
-        |t: usize| -> [Option<u16>; 8]
-            requires { t < 65536 }
-            ensures { result ≡ map (first_target (plan_of opening.entry.table.now) t) (range_with_len 0 8) }
-        { opening.targets_of(t as u16) },
-    );
-    Vectors {
-        ready: opening.ready,
-        notify: array::from_fn(|t| told(&target[t])),
-        target,
-        status: [CoreSet::NONE; 8],
-    }
+    opening.vectors()
 }
