@@ -9,7 +9,7 @@ ghost use Rattle.vectors.specs.Reached.{first_standing};
 ghost use Rattle.vectors.specs.View.{plan_on, standing_of, task_if};
 ghost use Rattle.board.specs.Keeping.{progress_lawful, progress_left};
 
-use crate::opening::{first_vectors, links};
+use crate::opening::Opening;
 use crate::vector_board::VectorBoard;
 use board::Board;
 use board::cores::Core;
@@ -25,12 +25,11 @@ impl VectorBoard {
     {
         let mut progress = Progress::new();
         progress.open(table);
-        let links = links(table);
-        let vectors = first_vectors(table, &links);
+        let opening = Opening::new(table);
         VectorBoard {
             progress,
-            vectors,
-            links,
+            vectors: opening.vectors(),
+            links: opening.links,
         }
     }
 

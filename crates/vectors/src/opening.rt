@@ -81,7 +81,7 @@ fn task_links(table: &Table, task: u16) -> TaskLinks
 }
 
 // So for every task.
-pub(crate) fn links(table: &Table) -> Links
+fn links(table: &Table) -> Links
     ensures { result ≡ links_of (plan_of table.now) }
 {
     Links {
@@ -96,18 +96,27 @@ fn told(targets: &[Option<u16>; 8]) -> CoreSet
     cores_where(|k| targets[k as usize].is_some())
 }
 
-// A table whose vectors are made, with what is known of it before the targets are sought.
+// A table that a board is opened on, with what is looked up of it: the links, and the ready vector of every task.
 #[derive(Drop)]
-struct Opening<'a> {
+pub(crate) struct Opening<'a> {
     table: &'a Table,
-    links: &'a Links,
-    // The ready vector of every task.
+    pub(crate) links: Links,
     ready: [CoreSet; 384],
-    ghost linked: { links.now ≡ links_of (plan_of table.now) },
+    ghost linked: { links ≡ links_of (plan_of table.now) },
     ghost begun: { ready ≡ map (λ t. set_of (begins (plan_of table.now) t)) (range_with_len 0 384) },
 }
 
-impl Opening<'_> {
+impl<'a> Opening<'a> {
+    pub(crate) fn new(table: &'a Table) -> Opening<'a>
+        ensures { plan_of result.table.now ≡ plan_of table.now }
+    {
+        Opening {
+            table,
+            links: links(table),
+            ready: array::from_fn(|t| ready_vector(table, t as u16)),
+        }
+    }
+
     // Does task `i` lie on the core and begin to wait on the core of this task, and does this task complete that wait?
     fn aims(&self, task: u16, core: u32, i: u16) -> bool
         requires { i < 384 }
@@ -147,7 +156,7 @@ impl Opening<'_> {
     }
 
     // The vectors before the first start.
-    fn vectors(&self) -> Vectors
+    pub(crate) fn vectors(&self) -> Vectors
         ensures { result ≡ first_vectors (plan_of self.now.table.now) }
     {
         Vectors {
@@ -155,17 +164,4 @@ impl Opening<'_> {
             status: [CoreSet::NONE; 8],
         }
     }
-}
-
-// The vectors before the first start, by what was looked up of the table.
-pub(crate) fn first_vectors(table: &Table, links: &Links) -> Vectors
-    requires { links.now ≡ links_of (plan_of table.now) }
-    ensures { result ≡ first_vectors (plan_of table.now) }
-{
-    let opening = Opening {
-        table,
-        links,
-        ready: array::from_fn(|t| ready_vector(table, t as u16)),
-    };
-    opening.vectors()
 }

@@ -32,7 +32,7 @@ module _ (o : Opening) (x i k : ℕ) (l : i < 384) (own : k ≡ (row (plan_of o.
       ∙ (ap (λ (s : CoreSet). has s k) (get_or-map-range_with_len (λ t. set_of (begins p t)) 0 384 i i none l (omega arith))
       ∙ (set_at (begins p i) k core_8 ∙ ap (begins p i) own))
 
-  completer_is : completer_of o.links.now i k ≡ completer (plan_of o.table.now) i (row (plan_of o.table.now) x).core
+  completer_is : completer_of o.links i k ≡ completer (plan_of o.table.now) i (row (plan_of o.table.now) x).core
   completer_is = ap (λ (m : Links). completer_of m i k) o.linked ∙ (completer_at (plan_of o.table.now) i k l core_8 ∙ ap (completer (plan_of o.table.now) i) own)
 
 -- whether row i lies on core k, as the code asks it
