@@ -1,5 +1,5 @@
 -- When the vectors say what the progress of a board says, and what follows for its two tests.
-use Rattle.std.proofs.Common.{◌≡◌, ℕ, suc, ◌<◌, ◌≤◌, Bool, true, false, not, ◌&&◌, ◌||◌, eqb, ltb, ◌⊎◌, List, [], length, get_or, sym, refl, ap, ◌∙◌, subst, inl, inr}
+use Rattle.std.proofs.Common.{◌≡◌, ℕ, suc, ◌<◌, ◌≤◌, Bool, true, false, not, ◌&&◌, ◌||◌, eqb, ltb, ◌⊎◌, List, length, get_or, sym, refl, ap, ◌∙◌, subst, inl, inr}
 use Rattle.std.proofs.lemmas.Bool.{eq-eqb, ne_eqb, ltb-true, leb-true, leb-false, cases_eq, true≢false, le-leb, or_left, or_right, and_left, and_right, not_from_false}
 use Rattle.table.specs.Below.{all_below}
 use Rattle.table.specs.Sets.{has}
@@ -12,7 +12,7 @@ use Rattle.board.specs.declared.cores.Core.{Core}
 use Rattle.board.specs.declared.cores.Step.{Step}
 use Rattle.board.specs.declared.cores.Step.TheVariants.{Waiting, Loose, Running, Over}
 use Rattle.board.specs.Keeping.{pending_left, waiting_left}
-use Rattle.vectors.specs.Phases.{Standing, ready_of, notify_of, status_of, target_of, drops, vectors_clear, vectors_easable}
+use Rattle.vectors.specs.Phases.{Standing, vectors_at, ready_of, notify_of, status_of, target_of, drops, vectors_clear, vectors_easable}
 use Rattle.vectors.specs.declared.state.Vectors.{Vectors}
 use Rattle.vectors.proofs.Pair.{Waits, Rises, Bits, Kept, unmet_ready, unmet_status, met_status}
 use Rattle.table.proofs.Ordered.{Ordered}
@@ -39,10 +39,8 @@ waits_rise p o c k = record {
 
 -- room for 384 rows and 8 cores
 pub record Shaped (v : Vectors) : Type 0 where
-  pub ready : length v.ready ≡ 384
-  pub notify : length v.notify ≡ 384
-  pub target : length v.target ≡ 384
-  pub wide : (x : ℕ) → x < 384 → length (get_or v.target x []) ≡ 8
+  pub tasks : length v.tasks ≡ 384
+  pub wide : (x : ℕ) → x < 384 → length (vectors_at v x).target ≡ 8
   pub status : length v.status ≡ 8
 
 -- from which place f on the waits on one core are in force, e tasks having ended: a task that runs, or is loose and has

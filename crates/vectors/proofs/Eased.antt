@@ -1,24 +1,24 @@
 -- An easing keeps the vectors in agreement with the progress.
-use Rattle.std.proofs.Common.{◌≡◌, ℕ, zero, suc, ◌-◌, ◌<◌, ◌≤◌, Bool, true, false, cond, not, ◌&&◌, eqb, ltb, ◌⊎◌, List, [], length, get_or, set, Some, None, sym, refl, ap, ◌∙◌, subst, subst₂, inl, inr, ⊎_elim, arith}
+use Rattle.std.proofs.Common.{◌≡◌, ℕ, zero, suc, ◌-◌, ◌<◌, ◌≤◌, Bool, true, false, cond, not, ◌&&◌, eqb, ltb, ◌⊎◌, List, length, get_or, Some, None, sym, refl, ap, ◌∙◌, subst, subst₂, inl, inr, ⊎_elim, arith}
 use Rattle.std.proofs.lemmas.Bool.Decides.{nat_tests}
 use Rattle.std.proofs.lemmas.Bool.{ltb-true, lt-ltb, leb-true, leb-false, eq-eqb, ne_eqb, eqb-false, cases_eq, cases_lt, and_parts, and_cases, and_left, not-true, not-false, both_ways, cond_both, cond-false}
-use Rattle.std.proofs.lemmas.List.{get_or-set_same, get_or-set_other, length-set}
-use Rattle.table.specs.Sets.{has, none, with, without}
+use Rattle.std.proofs.lemmas.List.{length-set}
+use Rattle.table.specs.Sets.{has, with, without}
 use Rattle.table.specs.Rows.{Plan, row, named, wait}
 use Rattle.table.proofs.Tables.{nth_within}
 use Rattle.board.specs.Steps.{is_waiting}
-use Rattle.board.specs.Meaning.{idle, ended_on, step_of, next, met, stepped, eased}
+use Rattle.board.specs.Meaning.{idle, ended_on, step_of, next, met, stepped}
 use Rattle.board.specs.declared.cores.Core.{Core}
 use Rattle.board.specs.declared.cores.Step.TheVariants.{Loose}
 use Rattle.board.specs.Keeping.{waiting_left}
-use Rattle.vectors.specs.Phases.{Standing, ready_of, notify_of, set_ready, drops, withdraw, retarget, hand_on, drop_bit, ease_vectors, vectors_easable, board_eased}
+use Rattle.vectors.specs.Phases.{Standing, vectors_at, ready_of, notify_of, target_of, set_ready, drops, withdraw, retarget, hand_on, drop_bit, ease_vectors, vectors_easable, board_eased}
 use Rattle.vectors.specs.declared.state.Vectors.{Vectors}
 use Rattle.vectors.proofs.Pair.{Kept, Alike, alike, alike_self, drop_kept_off, drop_kept_on}
-use Rattle.vectors.proofs.Entries.{off_same, off_other, off_keeps, on_same, on_other, entry_same, entry_other}
+use Rattle.vectors.proofs.Entries.{unready_same, unready_other, unready_keeps, ready_same, ready_other, untold_same, untold_other, untold_keeps, notify-set_ready, target-set_ready, ready-set_notify, target-set_notify, target_same, target_other, target_wide, ready-set_target, notify-set_target}
 use Rattle.table.proofs.Ordered.{Ordered, nth_some, nth_past}
 use Rattle.vectors.proofs.Places.{nth, tasks, nth_one, nth_only, following_is}
-use Rattle.vectors.proofs.Agree.{Shaped, Starts, Pair, Agree, waits, bits, waits_rise, waiting_from, easing_each, easable_right}
-use Rattle.vectors.proofs.Started.{either_progress, stepped_here, stepped_there, stepped_ended, stepped_left}
+use Rattle.vectors.proofs.Agree.{Shaped, Starts, Pair, Agree, waits, bits, waits_rise, waiting_from, easing_each}
+use Rattle.vectors.proofs.Started.{stepped_here, stepped_there, stepped_ended, stepped_left}
 use Rattle.vectors.proofs.Finished.{apart, from_later}
 
 -- task t drops its ready bit j: core c is not told of the end of task x any more, or task y is told
@@ -30,6 +30,41 @@ let_go v t x c j = withdraw (dropped_of v t j) (Some x) c
 
 abbrev handed : Vectors → ℕ → ℕ → ℕ → ℕ → ℕ → Vectors
 handed v t x y c j = retarget (set_ready (dropped_of v t j) y (with (ready_of (dropped_of v t j) y) j)) (Some x) c y
+
+-- the vectors once core c is not told any more
+module _ (v : Vectors) (t x c j : ℕ) where
+  let_go_ready : (r i : ℕ) → has (ready_of (let_go v t x c j) r) i ≡ has (ready_of (dropped_of v t j) r) i
+  let_go_ready r i = ap (λ z. has z i) (ready-set_notify (dropped_of v t j) x _ r)
+
+  let_go_notify : (r i : ℕ) → i < 8 → (r ≡ x → i ≡ c → ⊥) → has (notify_of (let_go v t x c j) r) i ≡ has (notify_of v r) i
+  let_go_notify r i h n = untold_other (dropped_of v t j) x c r i h n ∙ ap (λ z. has z i) (notify-set_ready v t _ r)
+
+  let_go_silent : (r i : ℕ) → i < 8 → has (notify_of v r) i ≡ false → has (notify_of (let_go v t x c j) r) i ≡ false
+  let_go_silent r i h e = untold_keeps (dropped_of v t j) x c r i h (ap (λ z. has z i) (notify-set_ready v t _ r) ∙ e)
+
+  let_go_target : (r : ℕ) → (vectors_at (let_go v t x c j) r).target ≡ (vectors_at v r).target
+  let_go_target r = target-set_notify (dropped_of v t j) x _ r ∙ target-set_ready v t _ r
+
+-- and once task y of core c is told
+module _ (v : Vectors) (t x y c j : ℕ) where
+  taken : Vectors
+  taken = set_ready (dropped_of v t j) y (with (ready_of (dropped_of v t j) y) j)
+
+  taken_target : (r : ℕ) → (vectors_at taken r).target ≡ (vectors_at v r).target
+  unfolding taken
+  taken_target r = target-set_ready (dropped_of v t j) y _ r ∙ target-set_ready v t _ r
+
+  handed_ready : (r i : ℕ) → has (ready_of (handed v t x y c j) r) i ≡ has (ready_of taken r) i
+  unfolding taken
+  handed_ready r i = ap (λ z. has z i) (ready-set_target taken x c y r)
+
+  handed_notify : (r i : ℕ) → has (notify_of (handed v t x y c j) r) i ≡ has (notify_of v r) i
+  unfolding taken
+  handed_notify r i = ap (λ z. has z i) (notify-set_target taken x c y r ∙ (notify-set_ready (dropped_of v t j) y _ r ∙ notify-set_ready v t _ r))
+
+  handed_target : (r k : ℕ) → (r ≡ x → k ≡ c → ⊥) → target_of (handed v t x y c j) r k ≡ target_of v r k
+  unfolding taken
+  handed_target r k n = target_other taken x c y r k n ∙ ap (λ z. get_or z k None) (taken_target r)
 
 -- cores from m on whose bits are not dropped change nothing
 ease_fewer : (m n : ℕ) (p : Plan) (v : Vectors) (k t : ℕ) → m ≤ n → ((j : ℕ) → m ≤ j → j < n → drops p v k t j ≡ false) → ease_vectors n p v k t ≡ ease_vectors m p v k t
@@ -183,9 +218,20 @@ module _ (p : Plan) (o : Ordered p) (cs : List Core) (v : Vectors) (s : Agree p 
       unfolding x W
       x_below = omega (arith, nth_within n (W - 1) p.rows x_in, o.short)
 
-      t_below : t < length u.ready
+      t_below : t < length u.tasks
       unfolding t
-      t_below = omega (arith, nth_within c (ended_on cs c) p.rows l, o.short, m.shape.ready)
+      t_below = omega (arith, nth_within c (ended_on cs c) p.rows l, o.short, m.shape.tasks)
+
+      -- there is room in the vectors once the bit is dropped
+      dropped_long : length (dropped_of u t n).tasks ≡ 384
+      dropped_long = length-set u.tasks t _ ∙ m.shape.tasks
+
+      dropped_room : x < length (dropped_of u t n).tasks
+      dropped_room = omega (arith, x_below, dropped_long)
+
+      -- a ready bit that is not there does not come
+      gone : (d i j : ℕ) → j < 8 → has (ready_of u (nth p d i)) j ≡ false → has (ready_of (let_go u t x c n) (nth p d i)) j ≡ false
+      gone d i j h e = let_go_ready u t x c n (nth p d i) j ∙ unready_keeps u t n (nth p d i) j h e
 
       -- only place W - 1 of core n is x
       x_only : (j i : ℕ) → i < tasks p j → nth p j i ≡ x → (j ≡ n) × (suc i ≡ W)
@@ -201,34 +247,34 @@ module _ (p : Plan) (o : Ordered p) (cs : List Core) (v : Vectors) (s : Agree p 
       unfolding loose t y W
       off_here last = rw (seen_after n) record {
         start = suc (ended_on cs c);
-        from = inr (refl, no_data, off_same u.ready t n t_below n8);
+        from = inr (refl, no_data, let_go_ready u t x c n t n ∙ unready_same u t n t_below n8);
         kept = drop_kept_off (waits p c n) (waits_rise p o c n) (ended_on cs n) (ended_on cs c) (bits p u c n) (kept_before cn) l unmet last (bits p (let_go u t x c n) c n)
-            (λ i ne hi. off_other u.ready t n (nth p c i) n n8 (λ q g. ne (nth_one p c c i (ended_on cs c) hi l q).1))
+            (λ i ne hi. let_go_ready u t x c n (nth p c i) n ∙ unready_other u t n (nth p c i) n n8 (λ q g. ne (nth_one p c c i (ended_on cs c) hi l q).1))
             refl
-            (λ i ne hi. off_other u.notify x c (nth p n i) c c8 (λ q g. ne (x_only n i hi q).1))
-            (λ i e. subst (λ z. has (get_or (set u.notify x (without (notify_of u x) c)) z none) c ≡ false) (x_is i e) (off_same u.notify x c (omega (arith, x_below, m.shape.notify)) c8))
-            (λ i hi. refl);
+            (λ i ne hi. let_go_notify u t x c n (nth p n i) c c8 (λ q g. ne (x_only n i hi q).1))
+            (λ i e. subst (λ z. has (notify_of (let_go u t x c n) z) c ≡ false) (x_is i e) (untold_same (dropped_of u t n) x c dropped_room c8))
+            (λ i hi. ap (λ z. get_or z c None) (let_go_target u t x c n (nth p n i)));
       }
 
       -- and all other pairs stay
       off_all : (suc (ended_on cs c) < tasks p c → has (ready_of u y) n ≡ true) → Mid (suc n) (let_go u t x c n)
       unfolding t
       off_all last = record {
-        shape = record { ready = length-set u.ready t _ ∙ m.shape.ready; notify = length-set u.notify x _ ∙ m.shape.notify; target = m.shape.target; wide = m.shape.wide; status = m.shape.status };
-        alone = λ d i hd hi. off_keeps u.ready t n (nth p d i) d (omega (arith, o.few)) (m.alone d i hd hi);
-        silent = λ d i hd hi. off_keeps u.notify x c (nth p d i) d (omega (arith, o.few)) (m.silent d i hd hi);
-        beyond = λ r j a b. off_keeps u.ready t n r j b (m.beyond r j a b);
-        beyond_told = λ r d a b. off_keeps u.notify x c r d b (m.beyond_told r d a b);
+        shape = record { tasks = length-set (dropped_of u t n).tasks x _ ∙ (length-set u.tasks t _ ∙ m.shape.tasks); wide = λ r h. ap length (let_go_target u t x c n r) ∙ m.shape.wide r h; status = m.shape.status };
+        alone = λ d i hd hi. gone d i d (omega (arith, o.few)) (m.alone d i hd hi);
+        silent = λ d i hd hi. let_go_silent u t x c n (nth p d i) d (omega (arith, o.few)) (m.silent d i hd hi);
+        beyond = λ r j a b. let_go_ready u t x c n r j ∙ unready_keeps u t n r j b (m.beyond r j a b);
+        beyond_told = λ r d a b. let_go_silent u t x c n r d b (m.beyond_told r d a b);
         pairs = λ d j hd hj dj. go d j hd hj dj (apart d c j n);
       }
         where
           go : (d j : ℕ) → d < p.cores → j < p.cores → (d ≡ j → ⊥) → (((d ≡ c) × (j ≡ n)) ⊎ (d ≡ c → j ≡ n → ⊥)) → Pair p (let_go u t x c n) d j (seen (suc n) d j) (ended_on cs j)
           go d j hd hj dj (inl q) = rw (q.0, q.1) (off_here last)
-          go d j hd hj dj (inr ne) = pair_else n u (let_go u t x c n) m d j (λ i. off_keeps u.ready t n (nth p d i) j (omega (arith, o.few))) hd hj dj ne (record {
-            ready = λ i hi. off_other u.ready t n (nth p d i) j (omega (arith, o.few)) (λ q g. ne (nth_one p d c i (ended_on cs c) hi l q).0 g);
+          go d j hd hj dj (inr ne) = pair_else n u (let_go u t x c n) m d j (λ i. gone d i j (omega (arith, o.few))) hd hj dj ne (record {
+            ready = λ i hi. let_go_ready u t x c n (nth p d i) j ∙ unready_other u t n (nth p d i) j (omega (arith, o.few)) (λ q g. ne (nth_one p d c i (ended_on cs c) hi l q).0 g);
             status = refl;
-            notify = λ i hi. off_other u.notify x c (nth p j i) d (omega (arith, o.few)) (λ q g. ne g (x_only j i hi q).0);
-            target = λ i hi. refl;
+            notify = λ i hi. let_go_notify u t x c n (nth p j i) d (omega (arith, o.few)) (λ q g. ne g (x_only j i hi q).0);
+            target = λ i hi. ap (λ z. get_or z d None) (let_go_target u t x c n (nth p j i));
           })
 
       -- the task after t is another one
@@ -237,25 +283,28 @@ module _ (p : Plan) (o : Ordered p) (cs : List Core) (v : Vectors) (s : Agree p 
         unfolding t y
         ty e = let q = nth_one p c c (suc (ended_on cs c)) (ended_on cs c) sl l e in omega (arith, q.1)
 
-        y_below : y < length u.ready
+        y_below : y < length u.tasks
         unfolding y
-        y_below = omega (arith, nth_within c (suc (ended_on cs c)) p.rows sl, o.short, m.shape.ready)
+        y_below = omega (arith, nth_within c (suc (ended_on cs c)) p.rows sl, o.short, m.shape.tasks)
 
         -- so its bit is the same after t has dropped its own
         first_y : has (ready_of (dropped_of u t n) y) n ≡ has (ready_of u y) n
-        first_y = ap (λ z. has z n) (get_or-set_other u.ready t y (without (ready_of u t) n) none ty)
+        first_y = unready_other u t n y n n8 (λ q g. ty q)
 
       -- the task after t takes the wait over
       module _ (sl : suc (ended_on cs c) < tasks p c) (clear : has (ready_of u y) n ≡ false) where
         -- what the ready vectors hold then
         ready_y : has (ready_of (handed u t x y c n) y) n ≡ true
-        ready_y = on_same (dropped_of u t n).ready y n (omega (arith, y_below sl, length-set u.ready t (without (ready_of u t) n))) n8
+        unfolding taken
+        ready_y = handed_ready u t x y c n y n ∙ ready_same (dropped_of u t n) y n (omega (arith, y_below sl, m.shape.tasks, dropped_long)) n8
 
         ready_t : has (ready_of (handed u t x y c n) t) n ≡ false
-        ready_t = on_other (dropped_of u t n).ready y n t n n8 (λ e g. ty sl (sym e)) ∙ off_same u.ready t n t_below n8
+        unfolding taken
+        ready_t = handed_ready u t x y c n t n ∙ (ready_other (dropped_of u t n) y n t n n8 (λ e g. ty sl (sym e)) ∙ unready_same u t n t_below n8)
 
         ready_else : (r j : ℕ) → j < 8 → (r ≡ t → j ≡ n → ⊥) → (r ≡ y → j ≡ n → ⊥) → has (ready_of (handed u t x y c n) r) j ≡ has (ready_of u r) j
-        ready_else r j j8 nt ny = on_other (dropped_of u t n).ready y n r j j8 ny ∙ off_other u.ready t n r j j8 nt
+        unfolding taken
+        ready_else r j j8 nt ny = handed_ready u t x y c n r j ∙ (ready_other (dropped_of u t n) y n r j j8 ny ∙ unready_other u t n r j j8 nt)
 
         -- of other pairs it says what it said
         ready_there : (d i j : ℕ) → j < 8 → (d ≡ c → j ≡ n → ⊥) → has (ready_of (handed u t x y c n) (nth p d i)) j ≡ has (ready_of u (nth p d i)) j
@@ -263,14 +312,17 @@ module _ (p : Plan) (o : Ordered p) (cs : List Core) (v : Vectors) (s : Agree p 
         ready_there d i j j8 ne = ready_else (nth p d i) j j8 (λ q. ne (nth_only p o d c i (ended_on cs c) l q).0) (λ q. ne (nth_only p o d c i (suc (ended_on cs c)) sl q).0)
 
         -- there is still room for a target on each core
-        wide : (r : ℕ) → r < 384 → length (get_or (handed u t x y c n).target r []) ≡ 8
-        wide r h = go (cases_eq r x)
-          where
-            go : ((r ≡ x) ⊎ (r ≡ x → ⊥)) → length (get_or (handed u t x y c n).target r []) ≡ 8
-            go (inl e) = ap (λ z. length (get_or (handed u t x y c n).target z [])) e ∙
-                (ap length (get_or-set_same u.target x (set (get_or u.target x []) c (Some y)) [] (omega (arith, x_below, m.shape.target))) ∙
-                (length-set (get_or u.target x []) c (Some y) ∙ m.shape.wide x x_below))
-            go (inr q) = ap length (get_or-set_other u.target x r (set (get_or u.target x []) c (Some y)) [] q) ∙ m.shape.wide r h
+        wide : (r : ℕ) → r < 384 → length (vectors_at (handed u t x y c n) r).target ≡ 8
+        unfolding taken
+        wide r h = target_wide (taken u t x y c n) x c y r ∙ (ap length (taken_target u t x y c n r) ∙ m.shape.wide r h)
+
+        taken_long : length (taken u t x y c n).tasks ≡ 384
+        unfolding taken
+        taken_long = length-set (dropped_of u t n).tasks y _ ∙ dropped_long
+
+        told_y : target_of (handed u t x y c n) x c ≡ Some y
+        unfolding taken
+        told_y = target_same (taken u t x y c n) x c y (omega (arith, x_below, taken_long)) (omega (arith, c8, ap length (taken_target u t x y c n x), m.shape.wide x x_below))
 
         -- the pair of the eased core and core n
         on_here : Pair p (handed u t x y c n) c n (seen (suc n) c n) (ended_on cs n)
@@ -280,27 +332,24 @@ module _ (p : Plan) (o : Ordered p) (cs : List Core) (v : Vectors) (s : Agree p 
           from = inr (refl, no_data, ready_t);
           kept = drop_kept_on (waits p c n) (waits_rise p o c n) (ended_on cs n) (ended_on cs c) (bits p u c n) (kept_before cn) sl unmet clear (bits p (handed u t x y c n) c n)
               (λ i ne ne' hi. ready_else (nth p c i) n n8 (λ q g. ne (nth_one p c c i (ended_on cs c) hi l q).1) (λ q g. ne' (nth_one p c c i (suc (ended_on cs c)) hi sl q).1))
-              ready_y refl (λ i hi. refl)
-              (λ i ne hi. entry_other u.target x c (Some y) None (nth p n i) c (λ q g. ne (x_only n i hi q).1))
-              (λ i e hi. subst (λ z. get_or (get_or (set u.target x (set (get_or u.target x []) c (Some y))) z []) c None ≡ Some y) (x_is i e)
-              (entry_same u.target x c (Some y) None (omega (arith, x_below, m.shape.target)) (omega (arith, c8, m.shape.wide x x_below))));
+              ready_y refl (λ i hi. handed_notify u t x y c n (nth p n i) c)
+              (λ i ne hi. handed_target u t x y c n (nth p n i) c (λ q g. ne (x_only n i hi q).1))
+              (λ i e hi. subst (λ z. target_of (handed u t x y c n) z c ≡ Some y) (x_is i e) told_y);
         }
 
         -- and all other pairs
         on_all : Mid (suc n) (handed u t x y c n)
-        unfolding t
+        unfolding t taken
         on_all = record {
           shape = record {
-            ready = length-set (set u.ready t (without (ready_of u t) n)) y _ ∙ (length-set u.ready t _ ∙ m.shape.ready);
-            notify = m.shape.notify;
-            target = length-set u.target x _ ∙ m.shape.target;
+            tasks = length-set (taken u t x y c n).tasks x _ ∙ taken_long;
             wide = wide;
             status = m.shape.status;
           };
           alone = λ d i hd hi. ready_there d i d (omega (arith, o.few)) (λ q g. cn (sym q ∙ g)) ∙ m.alone d i hd hi;
-          silent = m.silent;
+          silent = λ d i hd hi. handed_notify u t x y c n (nth p d i) d ∙ m.silent d i hd hi;
           beyond = λ r j a b. ready_else r j b (λ q g. omega (arith, g, a, hn)) (λ q g. omega (arith, g, a, hn)) ∙ m.beyond r j a b;
-          beyond_told = m.beyond_told;
+          beyond_told = λ r d a b. handed_notify u t x y c n r d ∙ m.beyond_told r d a b;
           pairs = λ d j hd hj dj. go d j hd hj dj (apart d c j n);
         }
           where
@@ -309,8 +358,8 @@ module _ (p : Plan) (o : Ordered p) (cs : List Core) (v : Vectors) (s : Agree p 
             go d j hd hj dj (inr ne) = pair_else n u (handed u t x y c n) m d j (λ i g. ready_there d i j (omega (arith, o.few)) ne ∙ g) hd hj dj ne (record {
               ready = λ i hi. ready_there d i j (omega (arith, o.few)) ne;
               status = refl;
-              notify = λ i hi. refl;
-              target = λ i hi. entry_other u.target x c (Some y) None (nth p j i) d (λ q g. ne g (x_only j i hi q).0);
+              notify = λ i hi. handed_notify u t x y c n (nth p j i) d;
+              target = λ i hi. handed_target u t x y c n (nth p j i) d (λ q g. ne g (x_only j i hi q).0);
             })
 
       -- the bit is dropped, in one of the two ways
@@ -358,10 +407,6 @@ module _ (p : Plan) (o : Ordered p) (cs : List Core) (v : Vectors) (s : Agree p 
 
       m : Mid p.cores (ease_vectors p.cores p v c (next p cs c))
       m = mid_all p.cores (omega arith)
-
--- an easing does to the progress what the meaning says
-pub progress_eased : (p : Plan) → Ordered p → (b : Standing) → Agree p b.progress b.vectors → (k : ℕ) → (board_eased p b k).progress ≡ eased p b.progress k
-progress_eased p o b s k = either_progress (vectors_easable p b k) b _ ∙ ap (λ x. cond x (stepped b.progress k Loose) b.progress) (easable_right p o b s k)
 
 -- an easing keeps the agreement
 pub agree_eased : (p : Plan) → Ordered p → (b : Standing) → Agree p b.progress b.vectors → (k : ℕ) → Agree p (board_eased p b k).progress (board_eased p b k).vectors

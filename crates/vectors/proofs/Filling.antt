@@ -1,40 +1,29 @@
 -- An array that a loop fills by a function of the place, and a set of cores that a loop fills by a test.
-use Rattle.std.proofs.Common.{◌≡◌, ℕ, ◌+◌, ◌<◌, ◌≤◌, Bool, true, false, ◌&&◌, ◌||◌, eqb, ltb, List, [], ◌∷◌, ◌++◌, map, length, get_or, take, set, is_some, None, Option, sym, ap, ◌∙◌, ⊎_elim, arith}
+use Rattle.std.proofs.Common.{◌≡◌, ℕ, zero, suc, ◌+◌, ◌<◌, ◌≤◌, Bool, true, false, ◌&&◌, ◌||◌, eqb, ltb, List, map, get_or, sym, ap, ◌∙◌, refl, subst, ⊎_elim, arith}
 use Rattle.std.specs.List.{range_with_len}
-use Rattle.std.proofs.lemmas.List.{length-set, take_more_set, take_all}
-use Rattle.std.proofs.lemmas.List.FromFn.{length-map-range_with_len, get_or-map-range_with_len, map-range_with_len_more, fill_by_all}
-use Rattle.std.proofs.lemmas.Bool.{cases_lt, cases_eq, lt-ltb, le-ltb, eq-eqb, ne_eqb}
+use Rattle.std.specs.Array.{IsFromFnResult, IsFromFnResultFrom}
+use Rattle.std.specs.Fn.{Called}
+use denote.Param.Members.{Mut}
+use Rattle.std.proofs.lemmas.List.FromFn.{fill_by_all}
+use Rattle.std.proofs.lemmas.Bool.Decides.{nat_tests}
+use Rattle.std.proofs.lemmas.Bool.{cases_eq, le-ltb}
 use Rattle.table.specs.Sets.{has, set_of, none, with}
 use Rattle.table.specs.declared.rows.CoreSet.{CoreSet}
 use Rattle.table.proofs.Sets.{bits_below, has_none, set_at}
 use Rattle.table.proofs.Masks.{set_is}
 
--- an array of n places, of which the first i hold what f gives for them
-abbrev pub Filled : {X : Type 0} → (ℕ → X) → ℕ → ℕ → List X → Type 0
-Filled f n i xs = (length xs ≡ n) × (take i xs ≡ map f (range_with_len 0 i))
-
--- one place more, and all places
-pub fill_next : {X : Type 0} (f : ℕ → X) (n i j : ℕ) (x : X) (xs : List X) → Filled f n i xs → i < n → j ≡ i → x ≡ f i → Filled f n (i + 1) (set xs j x)
-fill_next f n i j x xs h l at is = (
-  length-set xs j x ∙ h.0,
-  ap (λ k. take (i + 1) (set xs k x)) at
-      ∙ (take_more_set xs i x (omega (arith, h.0, l))
-      ∙ (ap (λ ys. ys ++ (x ∷ [])) h.1 ∙ (ap (λ y. map f (range_with_len 0 i) ++ (y ∷ [])) is ∙ sym (map-range_with_len_more f 0 i i (omega arith))))),
-)
-
-pub fill_last : {X : Type 0} (f : ℕ → X) (n i : ℕ) (xs : List X) → Filled f n i xs → n ≤ i → xs ≡ map f (range_with_len 0 n)
-fill_last f n i xs h l =
-    let all : xs ≡ map f (range_with_len 0 i) = sym (take_all i xs (omega (arith, h.0, l))) ∙ h.1 in
-    let e : i ≡ n = omega (arith, h.0, ap length all, length-map-range_with_len f 0 i) in
-    all ∙ ap (λ m. map f (range_with_len 0 m)) e
-
--- what stands in a filled array of arrays
-pub read_both : {X : Type 0} (f : ℕ → ℕ → X) (n m i j : ℕ) (d : X) → i < n → j < m → get_or (get_or (map (λ x. map (f x) (range_with_len 0 m)) (range_with_len 0 n)) i []) j d ≡ f i j
-read_both f n m i j d l h = ap (λ xs. get_or xs j d) (get_or-map-range_with_len (λ x. map (f x) (range_with_len 0 m)) 0 n i i [] l (omega arith)) ∙ get_or-map-range_with_len (f i) 0 m j j d h (omega arith)
-
--- arrays filled by functions that agree
-pub fill_same : {X : Type 0} (f g : ℕ → X) (n : ℕ) → ((k : ℕ) → k < n → f k ≡ g k) → map f (range_with_len 0 n) ≡ map g (range_with_len 0 n)
-fill_same f g n h = fill_by_all g (map f (range_with_len 0 n)) n (f 0) (length-map-range_with_len f 0 n) (λ k l. get_or-map-range_with_len f 0 n k k (f 0) l (omega arith) ∙ h k l)
+-- an array that a closure fills, called at each place, is what h gives for the places: no call changes the closure
+pub from_fn_is : {F X : Type 0} {g : Mut F (ℕ × Unit {0}) X} {f : F} {n : ℕ} (h : ℕ → X) (xs : List X) → IsFromFnResult g f xs n → ((i : ℕ) (x : X) (q : F) → Called g f (i, tt) x q → (q ≡ f) × (x ≡ h i)) → xs ≡ map h (range_with_len 0 n)
+from_fn_is {F} {X} {g} {f} {n} h xs made called = fill_by_all h xs n (h 0) made.long (λ i l. at 0 n f refl made.each i (omega arith) (omega arith))
+  where
+    at : (a m : ℕ) (p : F) → p ≡ f → IsFromFnResultFrom g p xs a m → (i : ℕ) → a ≤ i → i < a + m → get_or xs i (h 0) ≡ h i
+    at a zero p e r i u v = absurd (omega arith)
+    at a (suc m) p e r i u v =
+        let one = called a r.1 r.0 (subst (λ s. Called g s (a, tt) r.1 r.0) e r.3) in
+        ⊎_elim
+        (λ d. subst (λ j. get_or xs j (h 0) ≡ h j) (sym d) (r.2.1 (h 0) ∙ one.1))
+        (λ d. at (a + 1) m r.0 one.0 r.4 i (omega arith) (omega arith))
+        (cases_eq i a)
 
 -- sets by tests that agree
 pub set_same : (f g : ℕ → Bool) → ((j : ℕ) → j < 8 → f j ≡ g j) → set_of f ≡ set_of g
@@ -48,38 +37,13 @@ gathered f k = set_of (λ j. ltb j k && f j)
 pub gather_first : (f : ℕ → Bool) → none ≡ gathered f 0
 gather_first f = set_is none (λ j. ltb j 0 && f j) (omega arith) (λ j l. has_none j ∙ sym (ap (λ b. b && f j) (le-ltb j 0 (omega arith))))
 
--- below k + 1 and below k the test is the same but at k
-further : (f : ℕ → Bool) (k j : ℕ) → (j ≡ k → ⊥) → (ltb j (k + 1) && f j) ≡ (ltb j k && f j)
-further f k j n = ap (λ b. b && f j) (⊎_elim
-    (λ l. lt-ltb j (k + 1) (omega arith) ∙ sym (lt-ltb j k l))
-    (λ l. le-ltb j (k + 1) (omega arith) ∙ sym (le-ltb j k l))
-    (cases_lt j k))
-
-here : (f : ℕ → Bool) (k : ℕ) → (ltb k (k + 1) && f k) ≡ f k
-here f k = ap (λ b. b && f k) (lt-ltb k (k + 1) (omega arith))
-
 -- one core more, and all cores
 pub gather_yes : (f : ℕ → Bool) (k : ℕ) (s : CoreSet) → s ≡ gathered f k → f k ≡ true → with s k ≡ gathered f (k + 1)
-gather_yes f k s h y = set_same (λ j. eqb j k || has s j) (λ j. ltb j (k + 1) && f j) (λ j l. ⊎_elim
-    (λ e. ap (λ b. b || has s j) (eq-eqb j k e) ∙ sym (ap (λ i. ltb i (k + 1) && f i) e ∙ (here f k ∙ y)))
-    (λ n. ap (λ b. b || has s j) (ne_eqb j k n) ∙ (ap (λ t. has t j) h ∙ (set_at (λ i. ltb i k && f i) j l ∙ sym (further f k j n))))
-    (cases_eq j k))
+gather_yes f k s h y = set_same (λ j. eqb j k || has s j) (λ j. ltb j (k + 1) && f j)
+    (λ j l. ap (λ t. eqb j k || has t j) h ∙ (ap (λ b. eqb j k || b) (set_at (λ i. ltb i k && f i) j l) ∙ ⊎_elim (λ e. rw e (grind (arith, nat_tests))) (λ n. grind (arith, nat_tests)) (cases_eq j k)))
 
 pub gather_no : (f : ℕ → Bool) (k : ℕ) (s : CoreSet) → s ≡ gathered f k → f k ≡ false → s ≡ gathered f (k + 1)
-gather_no f k s h y = h ∙ set_same (λ j. ltb j k && f j) (λ j. ltb j (k + 1) && f j) (λ j l. ⊎_elim
-    (λ e. ap (λ i. ltb i k && f i) e ∙ (ap (λ b. b && f k) (le-ltb k k (omega arith)) ∙ sym (ap (λ i. ltb i (k + 1) && f i) e ∙ (here f k ∙ y))))
-    (λ n. sym (further f k j n))
-    (cases_eq j k))
+gather_no f k s h y = h ∙ set_same (λ j. ltb j k && f j) (λ j. ltb j (k + 1) && f j) (λ j l. ⊎_elim (λ e. rw e (grind (arith, nat_tests))) (λ n. grind (arith, nat_tests)) (cases_eq j k))
 
 pub gather_last : (f : ℕ → Bool) (k : ℕ) (s : CoreSet) → s ≡ gathered f k → 8 ≤ k → s ≡ set_of f
-gather_last f k s h l = h ∙ set_same (λ j. ltb j k && f j) f (λ j m. ap (λ b. b && f j) (lt-ltb j k (omega arith)))
-
--- place k holds a task
-abbrev pub some_at : List (Option ℕ) → ℕ → Bool
-some_at xs k = is_some (get_or xs k None)
-
--- the places at which the rows of a filled array of arrays hold a task
-pub told_all : (f : ℕ → ℕ → Option ℕ) (n : ℕ) (rows : List (List (Option ℕ))) → rows ≡ map (λ x. map (f x) (range_with_len 0 8)) (range_with_len 0 n) → map (λ x. set_of (some_at (get_or rows x []))) (range_with_len 0 n) ≡ map (λ x. set_of (λ k. is_some (f x k))) (range_with_len 0 n)
-told_all f n rows e =
-    fill_same (λ x. set_of (some_at (get_or rows x []))) (λ x. set_of (λ k. is_some (f x k))) n
-    (λ x l. set_same (some_at (get_or rows x [])) (λ k. is_some (f x k)) (λ k m. ap is_some (ap (λ (xs : List (List (Option ℕ))). get_or (get_or xs x []) k None) e ∙ read_both f n 8 x k None l m)))
+gather_last f k s h l = h ∙ set_same (λ j. ltb j k && f j) f (λ j m. grind (arith, nat_tests))

@@ -1,9 +1,9 @@
 -- An end keeps the vectors in agreement with the progress.
-use Rattle.std.proofs.Common.{◌≡◌, ℕ, zero, suc, ◌<◌, ◌≤◌, Bool, true, false, cond, ◌&&◌, eqb, ltb, ◌⊎◌, List, length, get_or, set, Some, sym, refl, ap, ◌∙◌, subst, inl, inr, ⊎_elim, arith}
+use Rattle.std.proofs.Common.{◌≡◌, ℕ, zero, suc, ◌<◌, ◌≤◌, Bool, true, false, cond, ◌&&◌, eqb, ltb, ◌⊎◌, List, length, get_or, set, Some, None, sym, refl, ap, ◌∙◌, subst, inl, inr, ⊎_elim, arith}
 use Rattle.std.proofs.lemmas.Bool.Decides.{nat_tests}
 use Rattle.std.proofs.lemmas.Bool.{ltb-true, lt-ltb, eq-eqb, ne_eqb, cases_eq, cases_lt, true≢false, both_ways, cond_both, cond-true, cond-false}
 use Rattle.std.proofs.lemmas.List.{get_or-set_same, get_or-set_other, length-set, get_or_past}
-use Rattle.table.specs.Sets.{has, none, with}
+use Rattle.table.specs.Sets.{has, with}
 use Rattle.table.specs.Rows.{Plan}
 use Rattle.table.proofs.Tables.{nth_within}
 use Rattle.board.specs.Steps.{is_running, is_over}
@@ -15,7 +15,7 @@ use Rattle.board.specs.Keeping.{running_left}
 use Rattle.vectors.specs.Phases.{Standing, ready_of, notify_of, status_of, set_status, unready, notice, end_vectors, board_finished}
 use Rattle.vectors.specs.declared.state.Vectors.{Vectors}
 use Rattle.vectors.proofs.Pair.{Kept, Told, Alike, alike, alike_self, end_kept_quiet, end_kept_set, end_kept_clear}
-use Rattle.vectors.proofs.Entries.{off_same, off_other, off_keeps, on_same, on_other}
+use Rattle.vectors.proofs.Entries.{unready_same, unready_other, unready_keeps, status_same, status_other, notify-set_ready, target-set_ready}
 use Rattle.table.proofs.Ordered.{Ordered}
 use Rattle.vectors.proofs.Places.{nth, tasks, nth_one}
 use Rattle.vectors.proofs.Agree.{Shaped, From, Starts, Pair, Agree, waits, bits, waits_rise}
@@ -90,7 +90,7 @@ module _ (p : Plan) (o : Ordered p) (cs : List Core) (v : Vectors) (s : Agree p 
   -- the vectors u, once the cores below n are told that task `next k` ended
   record Mid (n : ℕ) (u : Vectors) : Type 0 where
     shape : Shaped u
-    notify : u.notify ≡ v.notify
+    notify : (y : ℕ) → notify_of u y ≡ notify_of v y
     alone : (c i : ℕ) → c < p.cores → i < tasks p c → has (ready_of u (nth p c i)) c ≡ false
     beyond : (t j : ℕ) → p.cores ≤ j → j < 8 → has (ready_of u t) j ≡ false
     pairs : (c j : ℕ) → c < p.cores → j < p.cores → (c ≡ j → ⊥) → Pair p u c j (get_or cs c idle) (now n c j)
@@ -99,7 +99,7 @@ module _ (p : Plan) (o : Ordered p) (cs : List Core) (v : Vectors) (s : Agree p 
   mid_none : Mid 0 v
   mid_none = record {
     shape = s.shape;
-    notify = refl;
+    notify = λ y. refl;
     alone = s.alone;
     beyond = s.beyond;
     pairs = λ c j hc hj n. rw (now_none c j) (s.pairs c j hc hj n);
@@ -126,7 +126,7 @@ module _ (p : Plan) (o : Ordered p) (cs : List Core) (v : Vectors) (s : Agree p 
         rw (now_after n) record {
           start = pr.start;
           from = from_later (step_of cs n) (ended_on cs n) pr.start _ _ (now n n k) (suc (ended_on cs k)) _ _ (omega (arith, now_before n)) (λ q. q) pr.from;
-          kept = end_kept_quiet (waits p n k) (waits_rise p o n k) (ended_on cs k) pr.start (bits p u n k) kept l (ap (λ z. has (get_or z (next p cs k) none) n) m.notify ∙ off);
+          kept = end_kept_quiet (waits p n k) (waits_rise p o n k) (ended_on cs k) pr.start (bits p u n k) kept l (ap (λ z. has z n) (m.notify (next p cs k)) ∙ off);
         }
 
     quiet : has (notify_of v (next p cs k)) n ≡ false → Mid (suc n) u
@@ -148,39 +148,39 @@ module _ (p : Plan) (o : Ordered p) (cs : List Core) (v : Vectors) (s : Agree p 
       x : ℕ
       x = nth p n t.place
 
-      x_below : x < length u.ready
+      x_below : x < length u.tasks
       unfolding x
-      x_below = omega (arith, nth_within n t.place p.rows t.within, m.shape.ready, o.short)
+      x_below = omega (arith, nth_within n t.place p.rows t.within, m.shape.tasks, o.short)
 
       -- the notice clears the target's ready bit
       clear_here : has (status_of u n) k ≡ true → Pair p (unready u (Some x) k) n k (get_or cs n idle) (now (suc n) n k)
       unfolding x
       clear_here σ = rw (now_after n) record {
         start = f;
-        from = from_later (step_of cs n) (ended_on cs n) f _ _ (now n n k) (suc (ended_on cs k)) _ _ (omega (arith, now_before n)) (off_keeps u.ready x k (nth p n (ended_on cs n)) k (omega (arith, o.few))) from;
+        from = from_later (step_of cs n) (ended_on cs n) f _ _ (now n n k) (suc (ended_on cs k)) _ _ (omega (arith, now_before n)) (unready_keeps u x k (nth p n (ended_on cs n)) k (omega (arith, o.few))) from;
         kept = end_kept_clear (waits p n k) (waits_rise p o n k) (ended_on cs k) f (bits p u n k) kept t l σ (bits p (unready u (Some x) k) n k)
-            (λ i ne hi. off_other u.ready x k (nth p n i) k (omega (arith, o.few)) (λ e q. ne (nth_one p n n i t.place hi t.within e).1))
-            (off_same u.ready x k x_below (omega (arith, o.few)))
-            σ (λ y. refl) (λ y. refl);
+            (λ i ne hi. unready_other u x k (nth p n i) k (omega (arith, o.few)) (λ e q. ne (nth_one p n n i t.place hi t.within e).1))
+            (unready_same u x k x_below (omega (arith, o.few)))
+            σ (λ y. ap (λ z. has z n) (notify-set_ready u x _ (nth p k y))) (λ y. ap (λ z. get_or z n None) (target-set_ready u x _ (nth p k y)));
       }
 
       clear_told : has (status_of u n) k ≡ true → Mid (suc n) (unready u (Some x) k)
       unfolding x
       clear_told σ = record {
-        shape = record { ready = length-set u.ready x _ ∙ m.shape.ready; notify = m.shape.notify; target = m.shape.target; wide = m.shape.wide; status = m.shape.status };
-        notify = m.notify;
-        alone = λ c i hc hi. off_keeps u.ready x k (nth p c i) c (omega (arith, o.few)) (m.alone c i hc hi);
-        beyond = λ y j a b. off_keeps u.ready x k y j b (m.beyond y j a b);
+        shape = record { tasks = length-set u.tasks x _ ∙ m.shape.tasks; wide = λ r h. ap length (target-set_ready u x _ r) ∙ m.shape.wide r h; status = m.shape.status };
+        notify = λ y. notify-set_ready u x _ y ∙ m.notify y;
+        alone = λ c i hc hi. unready_keeps u x k (nth p c i) c (omega (arith, o.few)) (m.alone c i hc hi);
+        beyond = λ y j a b. unready_keeps u x k y j b (m.beyond y j a b);
         pairs = λ c j hc hj cj. go c j hc hj cj (apart c n j k);
       }
         where
           go : (c j : ℕ) → c < p.cores → j < p.cores → (c ≡ j → ⊥) → (((c ≡ n) × (j ≡ k)) ⊎ (c ≡ n → j ≡ k → ⊥)) → Pair p (unready u (Some x) k) c j (get_or cs c idle) (now (suc n) c j)
           go c j hc hj cj (inl q) = rw (q.0, q.1) (clear_here σ)
-          go c j hc hj cj (inr ne) = pair_else n u (unready u (Some x) k) m (λ c i j hj. off_keeps u.ready x k (nth p c i) j (omega (arith, o.few))) c j hc hj cj ne (record {
-            ready = λ i hi. off_other u.ready x k (nth p c i) j (omega (arith, o.few)) (λ e q. ne (nth_one p c n i t.place hi t.within e).0 q);
+          go c j hc hj cj (inr ne) = pair_else n u (unready u (Some x) k) m (λ c i j hj. unready_keeps u x k (nth p c i) j (omega (arith, o.few))) c j hc hj cj ne (record {
+            ready = λ i hi. unready_other u x k (nth p c i) j (omega (arith, o.few)) (λ e q. ne (nth_one p c n i t.place hi t.within e).0 q);
             status = refl;
-            notify = λ y h. refl;
-            target = λ y h. refl;
+            notify = λ y h. ap (λ z. has z c) (notify-set_ready u x _ (nth p j y));
+            target = λ y h. ap (λ z. get_or z c None) (target-set_ready u x _ (nth p j y));
           })
 
       -- the notice sets the status bit
@@ -189,12 +189,12 @@ module _ (p : Plan) (o : Ordered p) (cs : List Core) (v : Vectors) (s : Agree p 
         start = f;
         from = from_later (step_of cs n) (ended_on cs n) f _ _ (now n n k) (suc (ended_on cs k)) _ _ (omega (arith, now_before n)) (λ q. q) from;
         kept = end_kept_set (waits p n k) (waits_rise p o n k) (ended_on cs k) f (bits p u n k) kept t l σ (bits p (marked u n k) n k)
-            (λ i. refl) (on_same u.status n k (omega (arith, m.shape.status, o.few)) (omega (arith, o.few))) (λ y. refl) (λ y. refl);
+            (λ i. refl) (status_same u n k (omega (arith, m.shape.status, o.few)) (omega (arith, o.few))) (λ y. refl) (λ y. refl);
       }
 
       mark_told : has (status_of u n) k ≡ false → Mid (suc n) (marked u n k)
       mark_told σ = record {
-        shape = record { ready = m.shape.ready; notify = m.shape.notify; target = m.shape.target; wide = m.shape.wide; status = length-set u.status n _ ∙ m.shape.status };
+        shape = record { tasks = m.shape.tasks; wide = m.shape.wide; status = length-set u.status n _ ∙ m.shape.status };
         notify = m.notify;
         alone = m.alone;
         beyond = m.beyond;
@@ -205,7 +205,7 @@ module _ (p : Plan) (o : Ordered p) (cs : List Core) (v : Vectors) (s : Agree p 
           go c j hc hj cj (inl q) = rw (q.0, q.1) (mark_here σ)
           go c j hc hj cj (inr ne) = pair_else n u (marked u n k) m (λ c i j hj g. g) c j hc hj cj ne (record {
             ready = λ i hi. refl;
-            status = on_other u.status n k c j (omega (arith, o.few)) ne;
+            status = status_other u n k c j (omega (arith, o.few)) ne;
             notify = λ y h. refl;
             target = λ y h. refl;
           })
@@ -226,7 +226,7 @@ module _ (p : Plan) (o : Ordered p) (cs : List Core) (v : Vectors) (s : Agree p 
         kept = subst (λ E. Kept (waits p n k) E pr.start (bits p u n k)) (now_before n) pr.kept
 
         t : Told (waits p n k) pr.start (bits p u n k) (ended_on cs k)
-        t = kept.told (ended_on cs k) (omega arith) l (ap (λ z. has (get_or z (next p cs k) none) n) m.notify ∙ on)
+        t = kept.told (ended_on cs k) (omega arith) l (ap (λ z. has z n) (m.notify (next p cs k)) ∙ on)
 
   -- once the cores below n are told
   mid_all : (n : ℕ) → n ≤ p.cores → Mid n (end_vectors n v k (next p cs k))
@@ -273,9 +273,9 @@ module _ (p : Plan) (o : Ordered p) (cs : List Core) (v : Vectors) (s : Agree p 
       shape = m.shape;
       left = λ d hd t. left' d hd t (cases_eq d k);
       alone = m.alone;
-      silent = λ c y hc hy. ap (λ z. has (get_or z (nth p c y) none) c) m.notify ∙ s.silent c y hc hy;
+      silent = λ c y hc hy. ap (λ z. has z c) (m.notify (nth p c y)) ∙ s.silent c y hc hy;
       beyond = m.beyond;
-      beyond_told = λ y c a b. ap (λ z. has (get_or z y none) c) m.notify ∙ s.beyond_told y c a b;
+      beyond_told = λ y c a b. ap (λ z. has z c) (m.notify y) ∙ s.beyond_told y c a b;
       pairs = λ d j hd hj n. rw (← (now_all d j hd)) (go d j (m.pairs d j hd hj n) (cases_eq d k));
     }
       where
@@ -300,11 +300,6 @@ module _ (p : Plan) (o : Ordered p) (cs : List Core) (v : Vectors) (s : Agree p 
 -- a core that runs is one of the table's
 running_core : (cs : List Core) (k : ℕ) → is_running (step_of cs k) ≡ true → k < length cs
 running_core cs k t = ⊎_elim (λ h. h) (λ h. absurd (true≢false (sym t ∙ ap (λ (r : Core). is_running r.step) (get_or_past cs k idle h)))) (cases_lt k (length cs))
-
--- an end does to the progress what the meaning says
-pub progress_finished : (p : Plan) (b : Standing) (k : ℕ) → (board_finished p b k).progress ≡ finished p b.progress k
-progress_finished p b k = cond_both (is_running (step_of b.progress k)) _ b (λ (z : Standing). z.progress ≡ finished p b.progress k)
-    (λ e. refl) (λ e. sym (cond-false (is_running (step_of b.progress k)) (ended_one p b.progress k) b.progress e))
 
 -- an end keeps the agreement
 pub agree_finished : (p : Plan) → Ordered p → (b : Standing) → Agree p b.progress b.vectors → (k : ℕ) → Agree p (board_finished p b k).progress (board_finished p b k).vectors

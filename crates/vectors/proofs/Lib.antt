@@ -1,5 +1,5 @@
 pub mod Filling
-pub mod Tells
+pub mod Ranges
 pub mod Places
 pub mod Pair
 pub mod Entries

@@ -1,11 +1,10 @@
 -- The first vectors agree with the progress of a board that was just opened.
-use Rattle.std.proofs.Common.{◌≡◌, ℕ, zero, suc, ◌+◌, ◌-◌, ◌<◌, ◌≤◌, Bool, true, false, not, ◌&&◌, eqb, ltb, ◌⊎◌, [], map, length, get_or, is_some, Some, None, Option, sym, refl, ap, ◌∙◌, subst, subst₂, inl, inr, ⊎_elim, arith}
-use Rattle.std.specs.List.{range_with_len}
+use Rattle.std.proofs.Common.{◌≡◌, ℕ, zero, suc, ◌+◌, ◌-◌, ◌<◌, ◌≤◌, Bool, true, false, not, ◌&&◌, eqb, ltb, ◌⊎◌, length, get_or, is_some, Some, None, Option, sym, refl, ap, ◌∙◌, subst, subst₂, inl, inr, ⊎_elim, arith}
 use Rattle.std.proofs.lemmas.Bool.{ltb-true, lt-ltb, le-ltb, eqb-true, eqb-false, eq-eqb, ne_eqb, cases_eq, cases_lt, and_parts, and_from, and_left, and_right, not-true, not_from_true, not_from_false, true≢false, both_ways, cond_both, cond-true, cond-false}
 use Rattle.std.proofs.lemmas.List.{length-replicate, get_or-replicate, get_or_past}
 use Rattle.std.proofs.lemmas.List.FromFn.{length-map-range_with_len, get_or-map-range_with_len}
 use Rattle.table.specs.Below.{first_from}
-use Rattle.table.specs.Sets.{has, none, set_of}
+use Rattle.table.specs.Sets.{has, none}
 use Rattle.table.specs.Rows.{Plan, row, on, named, nth_on, wait}
 use Rattle.table.proofs.Sets.{set_at, has_none}
 use Rattle.table.proofs.Places.{before, before_lt, nth_at, wait_le}
@@ -14,7 +13,8 @@ use Rattle.board.specs.Steps.{is_over}
 use Rattle.board.specs.Meaning.{idle, rested, opened}
 use Rattle.board.specs.declared.cores.Core.{Core}
 use Rattle.vectors.specs.Links.{place, wait_before, begins, completer, is_task, aims, first_target}
-use Rattle.vectors.specs.Phases.{first_vectors, ready_of, notify_of, target_of, status_of}
+use Rattle.vectors.specs.declared.state.TaskVectors.{TaskVectors}
+use Rattle.vectors.specs.Phases.{no_vectors, vectors_at, task_vectors, first_vectors, ready_of, notify_of, target_of, status_of}
 use Rattle.vectors.proofs.Pair.{Kept, Told}
 use Rattle.table.proofs.Ordered.{Ordered, nth_some}
 use Rattle.vectors.proofs.Places.{nth, tasks, nth_one, nth_core, nth_place, none_past}
@@ -50,25 +50,30 @@ and_known false y e = absurd (true≢false (sym e))
 
 module _ (p : Plan) (o : Ordered p) where
   -- what the first vectors hold
+  first_at : (t : ℕ) → t < 384 → vectors_at (first_vectors p) t ≡ task_vectors p t
+  first_at t h = get_or-map-range_with_len (task_vectors p) 0 384 t t no_vectors h (omega arith)
+
   first_ready : (t k : ℕ) → t < 384 → k < 8 → has (ready_of (first_vectors p) t) k ≡ begins p t k
-  first_ready t k h hk = ap (λ z. has z k) (get_or-map-range_with_len (λ t. set_of (begins p t)) 0 384 t t none h (omega arith)) ∙ set_at (begins p t) k hk
+  unfolding task_vectors
+  first_ready t k h hk = ap (λ (z : TaskVectors). has z.ready k) (first_at t h) ∙ set_at (begins p t) k hk
 
   first_notify : (x c : ℕ) → x < 384 → c < 8 → has (notify_of (first_vectors p) x) c ≡ is_some (first_target p x c)
-  first_notify x c h hc = ap (λ z. has z c) (get_or-map-range_with_len (λ x. set_of (λ c. is_some (first_target p x c))) 0 384 x x none h (omega arith)) ∙ set_at (λ c. is_some (first_target p x c)) c hc
+  unfolding task_vectors
+  first_notify x c h hc = ap (λ (z : TaskVectors). has z.notify c) (first_at x h) ∙ set_at (λ c. is_some (first_target p x c)) c hc
 
   first_aim : (x c : ℕ) → x < 384 → c < 8 → target_of (first_vectors p) x c ≡ first_target p x c
-  first_aim x c h hc = ap (λ z. get_or z c None) (get_or-map-range_with_len (λ x. map (first_target p x) (range_with_len 0 8)) 0 384 x x [] h (omega arith)) ∙ get_or-map-range_with_len (first_target p x) 0 8 c c None hc (omega arith)
+  unfolding task_vectors
+  first_aim x c h hc = ap (λ (z : TaskVectors). get_or z.target c None) (first_at x h) ∙ get_or-map-range_with_len (first_target p x) 0 8 c c None hc (omega arith)
 
   first_status : (c k : ℕ) → c < 8 → has (status_of (first_vectors p) c) k ≡ false
   first_status c k hc = ap (λ z. has z k) (get_or-replicate 8 c none none hc) ∙ has_none k
 
   -- the first vectors have the room that they need
   shaped : Shaped (first_vectors p)
+  unfolding task_vectors
   shaped = record {
-    ready = length-map-range_with_len (λ t. set_of (begins p t)) 0 384;
-    notify = length-map-range_with_len (λ x. set_of (λ c. is_some (first_target p x c))) 0 384;
-    target = length-map-range_with_len (λ x. map (first_target p x) (range_with_len 0 8)) 0 384;
-    wide = λ x h. ap length (get_or-map-range_with_len (λ x. map (first_target p x) (range_with_len 0 8)) 0 384 x x [] h (omega arith)) ∙ length-map-range_with_len (first_target p x) 0 8;
+    tasks = length-map-range_with_len (task_vectors p) 0 384;
+    wide = λ x h. ap (λ (z : TaskVectors). length z.target) (first_at x h) ∙ length-map-range_with_len (first_target p x) 0 8;
     status = length-replicate 8 none;
   }
 
@@ -199,13 +204,13 @@ module _ (p : Plan) (o : Ordered p) where
   beyond_first : (t j : ℕ) → p.cores ≤ j → j < 8 → has (ready_of (first_vectors p) t) j ≡ false
   beyond_first t j a b = ⊎_elim
       (λ h. first_ready t j h b ∙ and_right (not (on j (row p t))) _ (le-ltb (wait_before p t j) (wait p.rows (row p t) j) (omega (arith, wait_le j (row p t).start p.rows, none_past p o j a))))
-      (λ h. ap (λ z. has z j) (get_or_past (first_vectors p).ready t none (omega (arith, h, shaped.ready))) ∙ has_none j)
+      (λ h. ap (λ (z : TaskVectors). has z.ready j) (get_or_past (first_vectors p).tasks t no_vectors (omega (arith, h, shaped.tasks))) ∙ has_none j)
       (cases_lt t 384)
 
   beyond_told_first : (x c : ℕ) → p.cores ≤ c → c < 8 → has (notify_of (first_vectors p) x) c ≡ false
   beyond_told_first x c a b = ⊎_elim
       (λ h. first_notify x c h b ∙ go (first_target p x c) (answers (aims p x c) 0 (length p.rows)))
-      (λ h. ap (λ z. has z c) (get_or_past (first_vectors p).notify x none (omega (arith, h, shaped.notify))) ∙ has_none c)
+      (λ h. ap (λ (z : TaskVectors). has z.notify c) (get_or_past (first_vectors p).tasks x no_vectors (omega (arith, h, shaped.tasks))) ∙ has_none c)
       (cases_lt x 384)
     where
       go : (a : Option ℕ) → Answers (aims p x c) 0 (length p.rows) a → is_some a ≡ false

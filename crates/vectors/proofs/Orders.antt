@@ -1,9 +1,9 @@
 -- What an order leaves of a vector board: the state that it defines, which is again one that orders lead to.
 use Rattle.std.proofs.Common.{◌≡◌, ℕ, ◌<◌, Bool, true, false, cond, ltb, Some, None, sym, refl, ap, ◌∙◌, subst, arith}
 use mathlib.Core.Logic.{∥∥₁_map}
-use Rattle.std.proofs.lemmas.Bool.{and_parts, cond-true, cond-false}
+use Rattle.std.proofs.lemmas.Bool.{and_parts, cond-true}
 use Rattle.table.specs.Rows.{Plan, row}
-use Rattle.table.specs.declared.rows.Row.{Row}
+use Rattle.table.specs.declared.rows.CoreSet.{CoreSet}
 use Rattle.table.proofs.Tables.{few_rows, nth_within}
 use Rattle.board.specs.Steps.{is_waiting, is_pending, is_running, is_over}
 use Rattle.board.specs.Standing.{plan_at, progress_at, loosened, launched}
@@ -19,6 +19,7 @@ use Rattle.vectors.specs.View.{plan_on, standing_of, task_if}
 use Rattle.vectors.specs.declared.vector_board.VectorBoard.{VectorBoard}
 use Rattle.vectors.specs.declared.state.Links.{Links}
 use Rattle.vectors.specs.declared.state.Vectors.{Vectors}
+use Rattle.vectors.proofs.Started.{either_progress}
 use Rattle.vectors.proofs.Stands.{clear_means, easable_means, ease_is}
 
 -- a task was named: the answer was yes, and it is the next one; none was named: the answer was no
@@ -30,10 +31,6 @@ pub none_task : (y : Bool) (p : Plan) (s : Standing) (k : ℕ) → None ≡ task
 none_task true p s k h = let z : ◌≡◌ {A = ℕ} 0 1 = cc in absurd (omega arith)
 none_task false p s k h = refl
 
-cond_progress : (y : Bool) (a b : Standing) → (cond y a b).progress ≡ cond y a.progress b.progress
-cond_progress true a b = refl
-cond_progress false a b = refl
-
 -- the next task of a core that is not over is one of the table
 next_small : (b : VectorBoard) (k : ℕ) → is_over (step_of (progress_at b.progress) k) ≡ false → next (plan_on b) (progress_at b.progress) k < 384
 next_small b k h = omega (arith, nth_within k _ (plan_on b).rows (left_at b.progress k h).left, few_rows b.progress.table)
@@ -41,17 +38,10 @@ next_small b k h = omega (arith, nth_within k _ (plan_on b).rows (left_at b.prog
 module _ (b : VectorBoard) (k : ℕ) where
   -- what the orders leave of the progress is what they mean
   pub started_means : (board_started (plan_on b) (standing_of b) k).progress ≡ started (plan_on b) (standing_of b).progress k
-  started_means = cond_progress (vectors_clear (plan_on b) (standing_of b) k) _ _ ∙ ap (λ y. cond y (stepped (standing_of b).progress k Running) (standing_of b).progress) (clear_means b k)
+  started_means = either_progress (vectors_clear (plan_on b) (standing_of b) k) _ _ ∙ ap (λ y. cond y (stepped (standing_of b).progress k Running) (standing_of b).progress) (clear_means b k)
 
   pub eased_means : (board_eased (plan_on b) (standing_of b) k).progress ≡ eased (plan_on b) (standing_of b).progress k
-  eased_means = cond_progress (vectors_easable (plan_on b) (standing_of b) k) _ _ ∙ ap (λ y. cond y (stepped (standing_of b).progress k Loose) (standing_of b).progress) (easable_means b k)
-
-  pub finished_means : (board_finished (plan_on b) (standing_of b) k).progress ≡ finished (plan_on b) (standing_of b).progress k
-  finished_means = cond_progress (is_running (step_of (standing_of b).progress k)) _ _ ∙ running (is_running (step_of (standing_of b).progress k)) refl
-    where
-      running : (y : Bool) → is_running (step_of (standing_of b).progress k) ≡ y → cond y (finished (plan_on b) (standing_of b).progress k) (standing_of b).progress ≡ finished (plan_on b) (standing_of b).progress k
-      running true e = refl
-      running false e = sym (cond-false (is_running (step_of (standing_of b).progress k)) _ _ e)
+  eased_means = either_progress (vectors_easable (plan_on b) (standing_of b) k) _ _ ∙ ap (λ y. cond y (stepped (standing_of b).progress k Loose) (standing_of b).progress) (easable_means b k)
 
   -- the step that an answer of yes shows
   pub clear_pending : vectors_clear (plan_on b) (standing_of b) k ≡ true → is_pending (step_of (standing_of b).progress k) ≡ true
@@ -71,12 +61,12 @@ module _ (b : VectorBoard) (k : ℕ) where
         ∙ sym (cond-true (vectors_clear (plan_on b) (standing_of b) k) _ _ h.0))
 
     pub eased_standing : Some t ≡ task_if (vectors_easable (plan_on b) (standing_of b) k) (plan_on b) (standing_of b) k → progress_at x ≡ loosened (standing_of b).progress k →
-        (r : Row) → r ≡ row (plan_on b) t → v ≡ ease_linked 8 b.links (dropped b.vectors k t r.inputs) b.vectors k t → standing (progress_at x) v ≡ board_eased (plan_on b) (standing_of b) k
-    eased_standing some e r i f =
+        (inputs : CoreSet) → inputs ≡ (row (plan_on b) t).inputs → v ≡ ease_linked 8 b.links (dropped b.vectors k t inputs) b.vectors k t → standing (progress_at x) v ≡ board_eased (plan_on b) (standing_of b) k
+    eased_standing some e inputs i f =
         let h = some_task (vectors_easable (plan_on b) (standing_of b) k) (plan_on b) (standing_of b) k t some in
         let small : t < 384 = omega (arith, h.1, next_small b k (waiting_left _ (easable_waiting h.0))) in
-        let linked = ap (λ (l : Links). ease_linked 8 l (dropped b.vectors k t r.inputs) b.vectors k t) b.linked in
-        let rowed = ap (λ (q : Row). ease_linked 8 (links_of (plan_on b)) (dropped b.vectors k t q.inputs) b.vectors k t) i in
+        let linked = ap (λ (l : Links). ease_linked 8 l (dropped b.vectors k t inputs) b.vectors k t) b.linked in
+        let rowed = ap (λ (s : CoreSet). ease_linked 8 (links_of (plan_on b)) (dropped b.vectors k t s) b.vectors k t) i in
         ap (λ cs. standing cs v) (e ∙ cond-true (is_waiting (step_of (standing_of b).progress k)) _ _ (easable_waiting h.0))
         ∙ (ap (standing (stepped (standing_of b).progress k Loose)) (f ∙ (linked ∙ (rowed ∙ (ease_is (plan_on b) b.vectors k t 8 small (omega arith) ∙ ap (ease_vectors 8 (plan_on b) b.vectors k) h.1))))
         ∙ sym (cond-true (vectors_easable (plan_on b) (standing_of b) k) _ _ h.0))

@@ -1,29 +1,31 @@
 -- What holds of every vector board, since its state is one that orders lead to.
-use Rattle.std.proofs.Common.{◌≡◌, ℕ, zero, suc, ◌<◌, ◌≤◌, Bool, true, false, cond, not, ◌&&◌, [], map, get_or, Some, None, Option, refl, ap, ◌∙◌, arith}
+use Rattle.std.proofs.Common.{◌≡◌, ℕ, zero, suc, ◌<◌, ◌≤◌, Bool, true, false, cond, not, ◌&&◌, get_or, is_some, Some, None, Option, sym, refl, ap, ◌∙◌, arith}
 use mathlib.Core.Bool.{Bool-set}
 use mathlib.Core.Logic.{∥∥₁_elim}
-use Rattle.std.specs.List.{range_with_len}
+use Rattle.std.proofs.Math.Bool.{not-not, and_assoc}
+use Rattle.std.specs.Bool.{then_some}
 use Rattle.std.proofs.lemmas.List.FromFn.{get_or-map-range_with_len}
 use Rattle.table.specs.Sets.{has, without, less}
 use Rattle.table.specs.Rows.{Plan, row}
 use Rattle.table.specs.Below.{any_below}
-use Rattle.table.specs.View.{plan_of}
-use Rattle.table.specs.declared.lawful.Table.{Table}
 use Rattle.table.specs.declared.rows.CoreSet.{CoreSet}
-use Rattle.table.specs.declared.rows.Row.{Row}
 use Rattle.table.proofs.Below.{any_same}
 use Rattle.table.proofs.Sets.{less_at}
-use Rattle.table.proofs.Tables.{task_at}
-use Rattle.board.specs.Steps.{is_over}
+use Rattle.table.proofs.Tables.{named_some}
+use Rattle.board.specs.Steps.{is_over, is_running}
 use Rattle.board.specs.Standing.{progress_at}
-use Rattle.board.specs.Meaning.{clear, easable, ended_on, step_of, next, next_task}
-use Rattle.board.specs.Keeping.{progress_lawful, left_at}
-use Rattle.vectors.specs.Links.{completer, following, links_of, completer_of, following_of}
+use Rattle.board.specs.declared.cores.Step.{Step}
+use Rattle.board.specs.declared.cores.Step.TheVariants.{Waiting, Loose, Running, Over}
+use Rattle.board.proofs.Asking.{none_over}
+use Rattle.board.specs.Meaning.{clear, easable, next_task, step_of}
+use Rattle.board.specs.Keeping.{progress_lawful}
+use Rattle.vectors.specs.Links.{completer, following, task_links, links_of, no_links, links_at, completer_of, following_of}
 use Rattle.vectors.specs.Phases.{Standing, ready_of, status_of, set_ready, hand_on, drops, drop_bit, ease_vectors, vectors_clear, vectors_easable}
 use Rattle.vectors.specs.Linked.{dropped, drop_linked, ease_linked}
 use Rattle.vectors.specs.Reached.{Reached, at_opening, by_easing, by_start, by_end}
-use Rattle.vectors.specs.View.{plan_on, standing_of}
+use Rattle.vectors.specs.View.{plan_on, standing_of, task_if}
 use Rattle.vectors.specs.declared.vector_board.VectorBoard.{VectorBoard}
+use Rattle.vectors.specs.declared.state.TaskLinks.{TaskLinks}
 use Rattle.vectors.specs.declared.state.Vectors.{Vectors}
 use Rattle.table.proofs.Ordered.{Ordered, ordered}
 use Rattle.vectors.proofs.Agree.{Agree, clear_right, easable_right}
@@ -50,16 +52,14 @@ pub easable_means : (b : VectorBoard) (k : ℕ) → vectors_easable (plan_on b) 
 easable_means b k = ∥∥₁_elim b.reached (Bool-set _ _) (λ r. easable_right (plan_on b) (board_ordered b) (standing_of b) (agree_reached (plan_on b) (board_ordered b) (standing_of b) r) k)
 
 -- what a board looks up of its table
-completer_at : (p : Plan) (t k : ℕ) → t < 384 → k < 8 → completer_of (links_of p) t k ≡ completer p t k
-completer_at p t k l m =
-    ap (λ xs. get_or xs k None) (get_or-map-range_with_len (λ t. map (completer p t) (range_with_len 0 8)) 0 384 t t [] l (omega arith)) ∙ get_or-map-range_with_len (completer p t) 0 8 k k None m (omega arith)
+links_of_at : (p : Plan) (t : ℕ) → t < 384 → links_at (links_of p) t ≡ task_links p t
+links_of_at p t l = get_or-map-range_with_len (task_links p) 0 384 t t no_links l (omega arith)
+
+pub completer_at : (p : Plan) (t k : ℕ) → t < 384 → k < 8 → completer_of (links_of p) t k ≡ completer p t k
+completer_at p t k l m = ap (λ (x : TaskLinks). get_or x.completers k None) (links_of_at p t l) ∙ get_or-map-range_with_len (completer p t) 0 8 k k None m (omega arith)
 
 following_at : (p : Plan) (t : ℕ) → t < 384 → following_of (links_of p) t ≡ following p t
-following_at p t l = get_or-map-range_with_len (following p) 0 384 t t None l (omega arith)
-
-and_assoc : (x y z : Bool) → ((x && y) && z) ≡ (x && (y && z))
-and_assoc true y z = refl
-and_assoc false y z = refl
+following_at p t l = ap (λ (x : TaskLinks). x.following) (links_of_at p t l)
 
 pub dropped_at : (p : Plan) (v : Vectors) (k t j : ℕ) → j < 8 → has (dropped v k t (row p t).inputs) j ≡ drops p v k t j
 dropped_at p v k t j l =
@@ -82,17 +82,32 @@ ease_is p v k t (suc j) l m =
         let w : Vectors = set_ready u t (without (ready_of u t) j) in
         ap (λ (f : Option ℕ). hand_on w f k (completer_of (links_of p) t j) j) (following_at p t l) ∙ ap (λ (x : Option ℕ). hand_on w (following p t) k x j) (completer_at p t j l (omega arith))
 
-not_not : (x : Bool) → not (not x) ≡ x
-not_not true = refl
-not_not false = refl
-
--- some bit is dropped, as the code asks it: of the row that it read of the board's table
-pub some_dropped : (b : VectorBoard) (k t : ℕ) (table : Table) (r : Row) (d : CoreSet) → plan_of table ≡ plan_on b → r ≡ row (plan_of table) t → d ≡ dropped b.vectors k t r.inputs →
+-- some bit is dropped, as the code asks it
+pub some_dropped : (b : VectorBoard) (k t : ℕ) (inputs d : CoreSet) → inputs ≡ (row (plan_on b) t).inputs → d ≡ dropped b.vectors k t inputs →
     not (not (any_below 8 (has d))) ≡ any_below 8 (drops (plan_on b) b.vectors k t)
-some_dropped b k t table r d e f g =
-    let is : d ≡ dropped b.vectors k t (row (plan_on b) t).inputs = g ∙ ap (λ (x : Row). dropped b.vectors k t x.inputs) (f ∙ ap (λ (q : Plan). row q t) e) in
-    not_not (any_below 8 (has d)) ∙ any_same 8 (has d) (drops (plan_on b) b.vectors k t) (λ j l. ap (λ (x : CoreSet). has x j) is ∙ dropped_at (plan_on b) b.vectors k t j l)
+some_dropped b k t inputs d f g =
+    let is : d ≡ dropped b.vectors k t (row (plan_on b) t).inputs = g ∙ ap (dropped b.vectors k t) f in
+    not-not (any_below 8 (has d)) ∙ any_same 8 (has d) (drops (plan_on b) b.vectors k t) (λ j l. ap (λ (x : CoreSet). has x j) is ∙ dropped_at (plan_on b) b.vectors k t j l)
 
--- a core that is not over has its next task at hand
-pub going_task : (b : VectorBoard) (k : ℕ) → is_over (step_of (progress_at b.progress) k) ≡ false → next_task (plan_on b) (progress_at b.progress) k ≡ Some (next (plan_on b) (progress_at b.progress) k)
-going_task b k h = task_at b.progress.table k (ended_on (progress_at b.progress) k) (left_at b.progress k h).left
+-- the next task, if the answer is yes; without one the answer is no
+pub next_if : (y z : Bool) (b : VectorBoard) (k t : ℕ) → y ≡ z → Some t ≡ next_task (plan_on b) (progress_at b.progress) k → then_some y t ≡ task_if z (plan_on b) (standing_of b) k
+next_if y true b k t e d = ap (λ x. then_some x t) e ∙ ap Some (sym (named_some _ t (sym d)))
+next_if y false b k t e d = ap (λ x. then_some x t) e
+
+pub none_if : (z : Bool) (b : VectorBoard) (k : ℕ) → false ≡ z → None ≡ task_if z (plan_on b) (standing_of b) k
+none_if z b k e = ap (λ y. task_if y (plan_on b) (standing_of b) k) e
+
+-- whether a task was named
+pub some_if : (y : Bool) (b : VectorBoard) (k : ℕ) → is_some (task_if y (plan_on b) (standing_of b) k) ≡ y
+some_if true b k = refl
+some_if false b k = refl
+
+-- a core with no next task runs none
+over_running : (s : Step) → is_over s ≡ true → is_running s ≡ false
+over_running Waiting h = refl
+over_running Loose h = refl
+over_running Running h = sym h
+over_running Over h = refl
+
+pub none_running : (b : VectorBoard) (k : ℕ) → None ≡ next_task (plan_on b) (progress_at b.progress) k → is_running (step_of (progress_at b.progress) k) ≡ false
+none_running b k h = over_running _ (none_over b.progress k h)

@@ -1,5 +1,6 @@
 -- A start keeps the vectors in agreement with the progress.
 use Rattle.std.proofs.Common.{◌≡◌, ℕ, suc, ◌<◌, Bool, true, false, cond, not, ◌&&◌, ◌||◌, ltb, ◌⊎◌, List, length, get_or, sym, refl, ap, ◌∙◌, subst, inl, inr, arith}
+use Rattle.std.proofs.Math.Bool.{and-true}
 use Rattle.std.proofs.lemmas.Bool.{ltb-true, cases_eq, and_parts, true≢false, cond_both}
 use Rattle.std.proofs.lemmas.List.{get_or-set_same, get_or-set_other, length-set}
 use Rattle.table.specs.Sets.{has, none, less}
@@ -7,7 +8,7 @@ use Rattle.table.specs.Rows.{Plan, row, wait}
 use Rattle.table.proofs.Below.{all_at}
 use Rattle.table.proofs.Sets.{less_at}
 use Rattle.board.specs.Steps.{is_pending, is_over}
-use Rattle.board.specs.Meaning.{idle, ended_on, step_of, next, stepped, started}
+use Rattle.board.specs.Meaning.{idle, ended_on, step_of, next, stepped}
 use Rattle.board.specs.declared.cores.Core.{Core}
 use Rattle.board.specs.declared.cores.Step.{Step}
 use Rattle.board.specs.declared.cores.Step.TheVariants.{Waiting, Loose, Running, Over}
@@ -17,7 +18,7 @@ use Rattle.vectors.specs.declared.state.Vectors.{Vectors}
 use Rattle.vectors.proofs.Pair.{Kept, alike, start_kept}
 use Rattle.table.proofs.Ordered.{Ordered}
 use Rattle.vectors.proofs.Places.{tasks}
-use Rattle.vectors.proofs.Agree.{From, Pair, Agree, waits, bits, waits_rise, clear_right}
+use Rattle.vectors.proofs.Agree.{From, Pair, Agree, waits, bits, waits_rise}
 
 -- a step leaves each core's ended tasks, and the other cores, as they were
 module _ (cs : List Core) (c : ℕ) (st : Step) (h : c < length cs) where
@@ -47,10 +48,6 @@ module _ (cs : List Core) (c : ℕ) (st : Step) (h : c < length cs) where
 so : (b σ : Bool) → (not b || σ) ≡ true → b ≡ true → σ ≡ true
 so true σ h e = h
 so false σ h e = absurd (true≢false (sym e))
-
-and_true : (x y : Bool) → y ≡ false → x ≡ (x && not y)
-and_true true y e = rw e
-and_true false y e = refl
 
 module _ (p : Plan) (o : Ordered p) (cs : List Core) (v : Vectors) (s : Agree p cs v) (c : ℕ) (hc : c < p.cores)
     (t : is_pending (step_of cs c) ≡ true) (there : noticed v c (next p cs c) ≡ true) where
@@ -86,7 +83,7 @@ module _ (p : Plan) (o : Ordered p) (cs : List Core) (v : Vectors) (s : Agree p 
           ready = λ i h. refl;
           notify = λ y h. refl;
           target = λ y h. refl;
-          status = status_here k hk ∙ sym (and_true (has (status_of v c) k) (has (ready_of v (next p cs c)) k) off);
+          status = status_here k hk ∙ (ap (λ b. has (status_of v c) k && not b) off ∙ and-true (has (status_of v c) k));
         })
         (subst (λ x. Kept (waits p c k) (ended_on cs k) x (bits p v c k)) e kept)
 
@@ -125,9 +122,7 @@ module _ (p : Plan) (o : Ordered p) (cs : List Core) (v : Vectors) (s : Agree p 
   starts = record {
     long = length-set cs c _ ∙ s.long;
     shape = record {
-      ready = s.shape.ready;
-      notify = s.shape.notify;
-      target = s.shape.target;
+      tasks = s.shape.tasks;
       wide = s.shape.wide;
       status = length-set v.status c _ ∙ s.shape.status;
     };
@@ -150,10 +145,6 @@ module _ (p : Plan) (o : Ordered p) (cs : List Core) (v : Vectors) (s : Agree p 
 pub either_progress : (x : Bool) (b b' : Standing) → (cond x b' b).progress ≡ cond x b'.progress b.progress
 either_progress true b b' = refl
 either_progress false b b' = refl
-
--- a start does to the progress what the meaning says
-pub progress_started : (p : Plan) → Ordered p → (b : Standing) → Agree p b.progress b.vectors → (k : ℕ) → (board_started p b k).progress ≡ started p b.progress k
-progress_started p o b s k = either_progress (vectors_clear p b k) b _ ∙ ap (λ x. cond x (stepped b.progress k Running) b.progress) (clear_right p o b s k)
 
 -- a start keeps the agreement
 pub agree_started : (p : Plan) → Ordered p → (b : Standing) → Agree p b.progress b.vectors → (k : ℕ) → Agree p (board_started p b k).progress (board_started p b k).vectors

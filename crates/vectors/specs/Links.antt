@@ -1,9 +1,10 @@
 -- What the vectors of a table are made from: which task begins to wait on a core, and which task completes that wait.
-use Rattle.std.specs.Prelude.{ℕ, ◌+◌, ◌-◌, Bool, false, cond, not, ◌&&◌, [], map, length, take, Some, None, Option, ◌==◌, nat_lt, slice_index_or}
+use Rattle.std.specs.Prelude.{ℕ, ◌+◌, ◌-◌, Bool, false, cond, not, ◌&&◌, map, replicate, length, take, Some, None, Option, ◌==◌, nat_lt, slice_index_or}
 use Rattle.std.specs.List.{range_with_len}
 use Rattle.table.specs.Below.{first_from}
 use Rattle.table.specs.Rows.{Plan, row, on, named, nth_on, tasks_on, wait}
 use Rattle.vectors.specs.declared.state.Links.{Links}
+use Rattle.vectors.specs.declared.state.TaskLinks.{TaskLinks}
 
 -- the place of task t on its core: how many tasks stand before it there
 abbrev pub place : Plan → ℕ → ℕ
@@ -38,16 +39,23 @@ aims p x c i = on c (row p i) && (begins p i (row p x).core && is_task x (comple
 abbrev pub first_target : Plan → ℕ → ℕ → Option ℕ
 first_target p x c = first_from (aims p x c) 0 (length p.rows)
 
--- what a board looks up of its table
-abbrev pub links_of : Plan → Links
-links_of p = record {
-  completers = map (λ t. map (completer p t) (range_with_len 0 8)) (range_with_len 0 384);
-  followings = map (following p) (range_with_len 0 384);
-}
+-- what a board looks up of its table for task t: the task of each core that completes its wait there, and the task after it
+abbrev pub task_links : Plan → ℕ → TaskLinks
+task_links p t = record { completers = map (completer p t) (range_with_len 0 8); following = following p t }
 
--- what they say of task t: the task of core k that completes its wait there, and the task after it on its core
+-- so for every task
+abbrev pub links_of : Plan → Links
+links_of p = record { tasks = map (task_links p) (range_with_len 0 384) }
+
+-- what they say of task t, nothing past the last one
+abbrev pub no_links : TaskLinks
+no_links = record { completers = replicate 8 None; following = None }
+
+abbrev pub links_at : Links → ℕ → TaskLinks
+links_at l t = slice_index_or l.tasks t no_links
+
 abbrev pub completer_of : Links → ℕ → ℕ → Option ℕ
-completer_of l t k = slice_index_or (slice_index_or l.completers t []) k None
+completer_of l t k = slice_index_or (links_at l t).completers k None
 
 abbrev pub following_of : Links → ℕ → Option ℕ
-following_of l t = slice_index_or l.followings t None
+following_of l t = (links_at l t).following

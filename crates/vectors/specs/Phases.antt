@@ -1,6 +1,6 @@
 -- The vectors at the opening and after each order, to be read beside the published ready, notify and relax phases.
 -- Left out everywhere: the bit of a core in its own vectors. A core runs its tasks in their order, so that bit says nothing.
-use Rattle.std.specs.Prelude.{ℕ, zero, suc, Bool, cond, not, ◌&&◌, List, [], map, replicate, is_some, Some, None, Option, nat_lt, slice_index_or, slice_set}
+use Rattle.std.specs.Prelude.{ℕ, zero, suc, Bool, cond, not, ◌&&◌, List, map, replicate, is_some, Some, None, Option, nat_lt, slice_index_or, slice_set}
 use Rattle.std.specs.List.{range_with_len}
 use Rattle.table.specs.Below.{any_below}
 use Rattle.table.specs.Sets.{has, set_of, none, with, without, less, includes}
@@ -11,43 +11,53 @@ use Rattle.board.specs.Meaning.{step_of, next, stepped, finished}
 use Rattle.board.specs.declared.cores.Core.{Core}
 use Rattle.board.specs.declared.cores.Step.TheVariants.{Loose, Running}
 use Rattle.vectors.specs.Links.{following, begins, completer, first_target}
+use Rattle.vectors.specs.declared.state.TaskVectors.{TaskVectors}
 use Rattle.vectors.specs.declared.state.Vectors.{Vectors}
+
+-- nothing is known of a task past the last one
+abbrev pub no_vectors : TaskVectors
+no_vectors = record { ready = none; notify = none; target = replicate 8 None }
+
+abbrev pub vectors_at : Vectors → ℕ → TaskVectors
+vectors_at v t = slice_index_or v.tasks t no_vectors
 
 -- the ready and the notification vector of task t, its target on core c, and the status vector of core k
 abbrev pub ready_of : Vectors → ℕ → CoreSet
-ready_of v t = slice_index_or v.ready t none
+ready_of v t = (vectors_at v t).ready
 
 abbrev pub notify_of : Vectors → ℕ → CoreSet
-notify_of v t = slice_index_or v.notify t none
+notify_of v t = (vectors_at v t).notify
 
 abbrev pub target_of : Vectors → ℕ → ℕ → Option ℕ
-target_of v t c = slice_index_or (slice_index_or v.target t []) c None
+target_of v t c = slice_index_or (vectors_at v t).target c None
 
 abbrev pub status_of : Vectors → ℕ → CoreSet
 status_of v k = slice_index_or v.status k none
 
 -- before the first start: a task needs a notice from each core on which it begins to wait, the task that completes
 -- that wait gives it, and no notice has come
-abbrev pub first_vectors : Plan → Vectors
-first_vectors p = record {
-  ready = map (λ t. set_of (begins p t)) (range_with_len 0 384);
-  notify = map (λ x. set_of (λ c. is_some (first_target p x c))) (range_with_len 0 384);
-  target = map (λ x. map (first_target p x) (range_with_len 0 8)) (range_with_len 0 384);
-  status = replicate 8 none;
+unfoldable pub task_vectors : Plan → ℕ → TaskVectors
+task_vectors p x = record {
+  ready = set_of (begins p x);
+  notify = set_of (λ c. is_some (first_target p x c));
+  target = map (first_target p x) (range_with_len 0 8);
 }
+
+abbrev pub first_vectors : Plan → Vectors
+first_vectors p = record { tasks = map (task_vectors p) (range_with_len 0 384); status = replicate 8 none }
 
 -- the vectors with another ready vector of task t, another notification vector, another target on core c, another status vector of core k
 abbrev pub set_ready : Vectors → ℕ → CoreSet → Vectors
-set_ready v t s = record { ready = slice_set v.ready t s; notify = v.notify; target = v.target; status = v.status }
+set_ready v t s = record { tasks = slice_set v.tasks t (record { ready = s; notify = notify_of v t; target = (vectors_at v t).target }); status = v.status }
 
 abbrev pub set_notify : Vectors → ℕ → CoreSet → Vectors
-set_notify v t s = record { ready = v.ready; notify = slice_set v.notify t s; target = v.target; status = v.status }
+set_notify v t s = record { tasks = slice_set v.tasks t (record { ready = ready_of v t; notify = s; target = (vectors_at v t).target }); status = v.status }
 
 abbrev pub set_target : Vectors → ℕ → ℕ → ℕ → Vectors
-set_target v t c u = record { ready = v.ready; notify = v.notify; target = slice_set v.target t (slice_set (slice_index_or v.target t []) c (Some u)); status = v.status }
+set_target v t c u = record { tasks = slice_set v.tasks t (record { ready = ready_of v t; notify = notify_of v t; target = slice_set (vectors_at v t).target c (Some u) }); status = v.status }
 
 abbrev pub set_status : Vectors → ℕ → CoreSet → Vectors
-set_status v k s = record { ready = v.ready; notify = v.notify; target = v.target; status = slice_set v.status k s }
+set_status v k s = record { tasks = v.tasks; status = slice_set v.status k s }
 
 -- READY PHASE. Core k has every notice that task t needs.
 abbrev pub noticed : Vectors → ℕ → ℕ → Bool

@@ -1,15 +1,15 @@
 ghost use Rattle.std.specs.Prelude.{◌≡◌, true, false};
 ghost use Rattle.board.specs.Meaning.{clear, easable, eased, finished, opened, started, step_of};
 ghost use Rattle.board.specs.Standing.{progress_at};
-ghost use Rattle.board.specs.Steps.{is_over, is_running};
+ghost use Rattle.board.specs.Steps.{is_running};
 ghost use Rattle.vectors.specs.Phases.{board_eased, board_finished, board_started, notify_of, ready_of, status_of, target_of, vectors_clear, vectors_easable};
-ghost use Rattle.table.specs.Rows.{nothing};
+ghost use Rattle.table.specs.Rows.{nothing, row};
 ghost use Rattle.table.specs.View.{plan_of};
 ghost use Rattle.vectors.specs.Reached.{first_standing};
 ghost use Rattle.vectors.specs.View.{plan_on, standing_of, task_if};
 ghost use Rattle.board.specs.Keeping.{progress_lawful, progress_left};
 
-use crate::opening::{first_vectors, links};
+use crate::opening::Opening;
 use crate::vector_board::VectorBoard;
 use board::Board;
 use board::cores::Core;
@@ -25,12 +25,11 @@ impl VectorBoard {
     {
         let mut progress = Progress::new();
         progress.open(table);
-        let links = links(table);
-        let vectors = first_vectors(table, &links);
+        let opening = Opening::new(table);
         VectorBoard {
             progress,
-            vectors,
-            links,
+            vectors: opening.vectors(),
+            links: opening.links,
         }
     }
 
@@ -70,39 +69,39 @@ impl VectorBoard {
         self.vectors.status_of(core)
     }
 
-    // Is the core clear? It is exactly when its vectors say so.
-    fn is_clear(&self, core: u32) -> bool
-        ensures vectors { result ≡ vectors_clear (plan_on self.now) (standing_of self.now) core }
-        ensures means { result ≡ clear (plan_on self.now) (progress_at self.now.progress) core }
+    // The core's next task, if the core is clear: exactly when its vectors say so.
+    fn clear_task(&self, core: u32) -> Option<u16>
+        ensures { result ≡ task_if (vectors_clear (plan_on self.now) (standing_of self.now) core) (plan_on self.now) (standing_of self.now) core }
     {
-        match self.progress.next(core) {
-            Some(task) => self.progress.core(core).step.is_pending()
-                && self.vectors.noticed(core, task),
-            None => false,
-        }
+        let task = self.progress.next(core)?;
+        let clear = self.progress.core(core).step.is_pending() && self.vectors.noticed(core, task);
+        clear.then_some(task)
     }
 
-    // Can the core be eased? It can exactly when its vectors say so.
-    fn is_easable(&self, core: u32) -> bool
-        ensures vectors { result ≡ vectors_easable (plan_on self.now) (standing_of self.now) core }
-        ensures means { result ≡ easable (plan_on self.now) (progress_at self.now.progress) core }
+    // The core's next task, if the core can be eased: exactly when its vectors say so.
+    fn easable_task(&self, core: u32) -> Option<u16>
+        ensures { result ≡ task_if (vectors_easable (plan_on self.now) (standing_of self.now) core) (plan_on self.now) (standing_of self.now) core }
     {
-        match self.progress.next(core) {
-            Some(task) => {
-                let inputs = self.progress.table().row(task).inputs;
-                let dropped = self.vectors.dropped(core, task, inputs);
-                self.progress.core(core).step.is_waiting() && !dropped.is_empty()
-            }
-            None => false,
-        }
+        let task = self.progress.next(core)?;
+        let dropped = self.vectors.dropped(core, task, self.inputs(task));
+        let easable = self.progress.core(core).step.is_waiting() && !dropped.is_empty();
+        easable.then_some(task)
     }
 
-    // The core's next task, if the answer about it was yes.
-    fn next_if(&self, yes: bool, core: u32) -> Option<u16>
-        requires { yes ≡ true → is_over (step_of (progress_at self.now.progress) core) ≡ false }
-        ensures { result ≡ task_if yes (plan_on self.now) (standing_of self.now) core }
+    // The task that the core runs, if it runs one.
+    fn running_task(&self, core: u32) -> Option<u16>
+        ensures { result ≡ task_if (is_running (step_of (progress_at self.now.progress) core)) (plan_on self.now) (standing_of self.now) core }
     {
-        if yes { self.progress.next(core) } else { None }
+        let task = self.progress.next(core)?;
+        let runs = self.progress.core(core).step.is_running();
+        runs.then_some(task)
+    }
+
+    // The task's data bits.
+    fn inputs(&self, task: u16) -> CoreSet
+        ensures { result ≡ (row (plan_on self.now) task).inputs }
+    {
+        self.progress.table().row(task).inputs
     }
 }
 
@@ -136,11 +135,11 @@ impl Board for VectorBoard {
     }
 
     fn clear(&self, core: u32) -> bool {
-        self.is_clear(core)
+        self.clear_task(core).is_some()
     }
 
     fn easable(&self, core: u32) -> bool {
-        self.is_easable(core)
+        self.easable_task(core).is_some()
     }
 
     fn ease(&mut self, core: u32) -> bool
@@ -150,10 +149,10 @@ impl Board for VectorBoard {
         ensures progress { progress_at self.new.progress ≡ eased (plan_on self.old) (progress_at self.old.progress) core }
         ensures standing { standing_of self.new ≡ board_eased (plan_on self.old) (standing_of self.old) core }
     {
-        let Some(task) = self.next_if(self.is_easable(core), core) else {
+        let Some(task) = self.easable_task(core) else {
             return false;
         };
-        let inputs = self.progress.table().row(task).inputs;
+        let inputs = self.inputs(task);
         self.vectors.ease(&self.links, core, task, inputs);
         self.progress.loosen(core)
     }
@@ -165,7 +164,7 @@ impl Board for VectorBoard {
         ensures progress { progress_at self.new.progress ≡ started (plan_on self.old) (progress_at self.old.progress) core }
         ensures standing { standing_of self.new ≡ board_started (plan_on self.old) (standing_of self.old) core }
     {
-        let Some(task) = self.next_if(self.is_clear(core), core) else {
+        let Some(task) = self.clear_task(core) else {
             return false;
         };
         self.vectors.start(core, task);
@@ -179,8 +178,7 @@ impl Board for VectorBoard {
         ensures progress { progress_at self.new.progress ≡ finished (plan_on self.old) (progress_at self.old.progress) core }
         ensures standing { standing_of self.new ≡ board_finished (plan_on self.old) (standing_of self.old) core }
     {
-        let runs = self.progress.core(core).step.is_running();
-        let Some(task) = self.next_if(runs, core) else {
+        let Some(task) = self.running_task(core) else {
             return false;
         };
         self.vectors.end(core, task);

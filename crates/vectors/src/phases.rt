@@ -1,52 +1,75 @@
-ghost use Rattle.std.specs.Prelude.{◌≡◌, Some, slice_set};
-ghost use Rattle.vectors.specs.Links.{completer_of, following_of};
+ghost use Rattle.std.specs.Prelude.{◌≡◌};
+ghost use Rattle.vectors.specs.Links.{completer_of, following_of, links_at};
 ghost use Rattle.vectors.specs.Linked.{drop_linked, dropped, ease_linked};
-ghost use Rattle.vectors.specs.Phases.{end_vectors, hand_on, notice, noticed, notify_of, ready_of, retarget, set_notify, set_ready, set_status, set_target, start_vectors, status_of, target_of, unready, withdraw};
+ghost use Rattle.vectors.specs.Phases.{end_vectors, hand_on, notice, noticed, notify_of, ready_of, retarget, set_notify, set_ready, set_status, set_target, start_vectors, status_of, target_of, unready, vectors_at, withdraw};
 
 use crate::slots::{entry, put};
-use crate::state::{Links, Vectors};
+use crate::state::{Links, TaskLinks, TaskVectors, Vectors};
 use table::rows::CoreSet;
 
-// The targets of a task with another one on the core.
-fn with_target(mut targets: [Option<u16>; 8], core: u32, to: u16) -> [Option<u16>; 8]
-    ensures { result ≡ slice_set targets core (Some to) }
-{
-    put(&mut targets, core as usize, Some(to));
-    targets
+impl TaskLinks {
+    const NONE: TaskLinks = TaskLinks {
+        completers: [None; 8],
+        following: None,
+    };
 }
 
 impl Links {
+    // What is known of the task, nothing if there can be no such task.
+    fn at(&self, task: u16) -> TaskLinks
+        ensures { result ≡ links_at self.now task }
+    {
+        entry(&self.tasks, usize::from(task), TaskLinks::NONE)
+    }
+
     // The task of the core that completes the task's wait there.
     pub(crate) fn completer(&self, task: u16, core: u32) -> Option<u16>
         ensures { result ≡ completer_of self.now task core }
     {
-        entry(
-            &entry(&self.completers, usize::from(task), [None; 8]),
-            core as usize,
-            None,
-        )
+        entry(&self.at(task).completers, core as usize, None)
     }
 
     // The task after the task on its core.
     pub(crate) fn following(&self, task: u16) -> Option<u16>
         ensures { result ≡ following_of self.now task }
     {
-        entry(&self.followings, usize::from(task), None)
+        self.at(task).following
     }
 }
 
+impl TaskVectors {
+    const NONE: TaskVectors = TaskVectors {
+        ready: CoreSet::NONE,
+        notify: CoreSet::NONE,
+        target: [None; 8],
+    };
+}
+
 impl Vectors {
+    // The vectors of the task, empty ones if there can be no such task.
+    fn at(&self, task: u16) -> TaskVectors
+        ensures { result ≡ vectors_at self.now task }
+    {
+        entry(&self.tasks, usize::from(task), TaskVectors::NONE)
+    }
+
     // The ready vector of a task, its notification vector, its target on a core; the status vector of a core.
     pub(crate) fn ready_of(&self, task: u16) -> CoreSet
         ensures { result ≡ ready_of self.now task }
     {
-        entry(&self.ready, usize::from(task), CoreSet::NONE)
+        self.at(task).ready
     }
 
     pub(crate) fn notify_of(&self, task: u16) -> CoreSet
         ensures { result ≡ notify_of self.now task }
     {
-        entry(&self.notify, usize::from(task), CoreSet::NONE)
+        self.at(task).notify
+    }
+
+    pub(crate) fn target_of(&self, task: u16, core: u32) -> Option<u16>
+        ensures { result ≡ target_of self.now task core }
+    {
+        entry(&self.at(task).target, core as usize, None)
     }
 
     pub(crate) fn status_of(&self, core: u32) -> CoreSet
@@ -55,43 +78,39 @@ impl Vectors {
         entry(&self.status, core as usize, CoreSet::NONE)
     }
 
-    pub(crate) fn target_of(&self, task: u16, core: u32) -> Option<u16>
-        ensures { result ≡ target_of self.now task core }
-    {
-        let targets: &[[Option<u16>; 8]] = &self.target;
-        let at = usize::from(task);
-        if at < targets.len() {
-            entry(&targets[at], core as usize, None)
-        } else {
-            None
-        }
-    }
-
     fn set_ready(&mut self, task: u16, to: CoreSet)
         ensures { self.new ≡ set_ready self.old task to }
     {
-        put(&mut self.ready, usize::from(task), to);
+        let vectors = TaskVectors {
+            ready: to,
+            ..self.at(task)
+        };
+        put(&mut self.tasks, usize::from(task), vectors);
     }
 
     fn set_notify(&mut self, task: u16, to: CoreSet)
         ensures { self.new ≡ set_notify self.old task to }
     {
-        put(&mut self.notify, usize::from(task), to);
-    }
-
-    fn set_status(&mut self, core: u32, to: CoreSet)
-        ensures { self.new ≡ set_status self.old core to }
-    {
-        put(&mut self.status, core as usize, to);
+        let vectors = TaskVectors {
+            notify: to,
+            ..self.at(task)
+        };
+        put(&mut self.tasks, usize::from(task), vectors);
     }
 
     // Gives the task another target on the core.
     fn set_target(&mut self, task: u16, core: u32, to: u16)
         ensures { self.new ≡ set_target self.old task core to }
     {
-        let at = usize::from(task);
-        let row = with_target(entry(&self.target, at, [None; 8]), core, to);
-        put(&mut self.target, at, row);
+        let mut vectors = self.at(task);
+        put(&mut vectors.target, core as usize, Some(to));
+        put(&mut self.tasks, usize::from(task), vectors);
+    }
+
+    fn set_status(&mut self, core: u32, to: CoreSet)
+        ensures { self.new ≡ set_status self.old core to }
+    {
+        put(&mut self.status, core as usize, to);
     }
 
     // Has the core every notice that the task needs?

@@ -4,7 +4,7 @@ ghost use Rattle.std.specs.Prelude.{◌≡◌, slice_index_or, slice_set};
 pub(crate) fn entry<T: Copy>(items: &[T], at: usize, default: T) -> T
     ensures { result ≡ slice_index_or items.now at default }
 {
-    if at < items.len() { items[at] } else { default }
+    items.get(at).copied().unwrap_or(default)
 }
 
 pub(crate) fn put<T: Copy>(items: &mut [T], at: usize, to: T)

@@ -1,10 +1,9 @@
-use Rattle.std.proofs.Common.{◌≡◌, ℕ, List, Option}
-use Rattle.vectors.specs.declared.state.Links.{Links}
+use Rattle.std.proofs.Common.{List, ap, rules}
+use Rattle.table.specs.View.{plan_of}
+use Rattle.vectors.specs.Links.{task_links}
+use Rattle.vectors.specs.declared.state.TaskLinks.{TaskLinks}
+use Rattle.vectors.proofs.Filling.{from_fn_is}
 use Rattle.vectors.proofs.opening.links.Goals as goal
 
--- links are what their parts are
-both : (a b : List (List (Option ℕ))) (x y : List (Option ℕ)) → a ≡ b → x ≡ y → ◌≡◌ {A = Links} (record { completers = a; followings = x }) (record { completers = b; followings = y })
-both a b x y e f = cc
-
 pub returns : goal.returns
-returns c = both _ _ _ _ c.completers.ensures c.followings.ensures
+returns c = ap (λ (xs : List TaskLinks). record { tasks = xs }) (from_fn_is (task_links (plan_of c.args.table.now)) _ c.from_fn.ensures.items (λ i x q h. (search rules, cc)))
