@@ -1,10 +1,9 @@
 -- A line is read as a call just where it writes that call.
-use Rattle.std.proofs.Common.{◌≡◌, ℕ, ◌≤◌, cond, eqb, leb, List, [], ◌∷◌, ◌++◌, length, Some, None, codes, Option, sym, refl, ap, ◌∙◌, subst, ⊎_elim, append-nil, arith, take-append-drop}
-use Rattle.std.proofs.lemmas.Bool.{le-leb, leb-true, cond-true, cond-false, cases_Bool}
+use Rattle.std.proofs.Common.{◌≡◌, ℕ, ◌≤◌, List, [], ◌∷◌, ◌++◌, length, Some, None, codes, Option, sym, refl, ap, ◌∙◌, subst, append-nil, arith, take-append-drop}
 use Rattle.calls.specs.declared.Call.{Call}
 use Rattle.calls.specs.declared.Call.TheVariants.{Ask, End}
-use Rattle.script.specs.declared.Line.TheVariants.{Silent, Play, Bad}
-use Rattle.script.specs.Grammar.{spaces_off, word_length, next_word, after_word, number, then, same, close, read_ask, read_end, read_command, read_call, play, read_short, read}
+use Rattle.script.specs.declared.Line.TheVariants.{Play}
+use Rattle.script.specs.Grammar.{spaces_off, word_length, next_word, after_word, number, then, close, read_ask, read_end, read_command, read_call, play, read_short, read}
 use Rattle.script.specs.Lines.{Numbered, AskLine, EndLine, Reads, ReadsExactly}
 use Rattle.script.proofs.Scan.{same_list}
 use Rattle.script.proofs.Parts.{Opens, opens_after, word_reads, part_reads, split}
@@ -16,22 +15,16 @@ record Chosen {A B : Type 0} (o : Option A) (f : A → Option B) (y : B) : Type 
   goes : f got ≡ Some y
 
 chosen : {A B : Type 0} (o : Option A) (f : A → Option B) (y : B) → then o f ≡ Some y → Chosen o f y
-chosen None f y h = let z : ◌≡◌ {A = ℕ} 0 1 = cc in absurd (omega arith)
+chosen None f y h = cc
 chosen (Some x) f y h = record { got = x; is = refl; goes = h }
 
 closed : (text : List ℕ) (call c : Call) → close text call ≡ Some c → (text ≡ []) × (call ≡ c)
 closed [] call c h = (refl, cc)
-closed (b ∷ bs) call c h = let z : ◌≡◌ {A = ℕ} 0 1 = cc in absurd (omega arith)
+closed (b ∷ bs) call c h = cc
 
 played : (o : Option Call) (c : Call) → play o ≡ Play c → o ≡ Some c
-played None c h = let z : ◌≡◌ {A = ℕ} 0 1 = cc in absurd (omega arith)
+played None c h = cc
 played (Some x) c h = cc
-
-not_silent : (c : Call) → Silent ≡ Play c → ⊥
-not_silent c h = let z : ◌≡◌ {A = ℕ} 0 1 = cc in omega arith
-
-not_bad : (c : Call) → Bad ≡ Play c → ⊥
-not_bad c h = let z : ◌≡◌ {A = ℕ} 0 1 = cc in omega arith
 
 -- nothing stands after the last part
 last_part : (text part rest : List ℕ) → text ≡ part ++ rest → rest ≡ [] → text ≡ part
@@ -79,36 +72,14 @@ command_sound line c dark fits h =
     let text = after_word line in
     let cut : word ++ text ≡ line = take-append-drop (word_length (spaces_off line)) (spaces_off line) ∙ dark in
     let opens = opens_after (spaces_off line) in
-    ⊎_elim
-    (λ is. ask_sound line text c opens (sym cut ∙ ap (λ w. w ++ text) (same_list word (codes "ask") is)) fits (sym (cond-true (same word (codes "ask")) _ _ is) ∙ h))
-    (λ other.
-    let next = sym (cond-false (same word (codes "ask")) (read_ask text) (cond (same word (codes "end")) (read_end text) None) other) ∙ h in
-    ⊎_elim
-    (λ is. end_sound line text c opens (sym cut ∙ ap (λ w. w ++ text) (same_list word (codes "end") is)) fits (sym (cond-true (same word (codes "end")) _ _ is) ∙ next))
-    (λ neither. let none : None ≡ Some c = sym (cond-false (same word (codes "end")) (read_end text) None neither) ∙ next in let z : ◌≡◌ {A = ℕ} 0 1 = cc in absurd (omega arith))
-    (cases_Bool (same word (codes "end"))))
-    (cases_Bool (same word (codes "ask")))
+    grind (arith, same_list word, ask_sound line text c opens, end_sound line text c opens)
 
 short_sound : (line : List ℕ) (c : Call) → length line ≤ 80 → read_short line ≡ Play c → Reads line c
-short_sound [] c fits h = absurd (not_silent c h)
-short_sound (b ∷ bs) c fits h =
-    let inner = cond (eqb b 32) Bad (play (read_call (b ∷ bs))) in
-    ⊎_elim
-    (λ is. absurd (not_silent c (sym (cond-true (eqb b 35) Silent inner is) ∙ h)))
-    (λ other.
-    let next : inner ≡ Play c = sym (cond-false (eqb b 35) Silent inner other) ∙ h in
-    ⊎_elim
-    (λ is. absurd (not_bad c (sym (cond-true (eqb b 32) Bad (play (read_call (b ∷ bs))) is) ∙ next)))
-    (λ dark. command_sound (b ∷ bs) c (cond-false (eqb b 32) (spaces_off bs) (b ∷ bs) dark) fits (played (read_call (b ∷ bs)) c (sym (cond-false (eqb b 32) Bad (play (read_call (b ∷ bs))) dark) ∙ next)))
-    (cases_Bool (eqb b 32)))
-    (cases_Bool (eqb b 35))
+short_sound [] c fits h = cc
+short_sound (b ∷ bs) c fits h = grind (arith, command_sound (b ∷ bs) c, played (read_call (b ∷ bs)) c)
 
 pub sound : (line : List ℕ) (c : Call) → read line ≡ Play c → Reads line c
-sound line c h =
-    ⊎_elim
-    (λ is. short_sound line c (leb-true (length line) 80 is) (sym (cond-true (leb (length line) 80) (read_short line) Bad is) ∙ h))
-    (λ long. absurd (not_bad c (sym (cond-false (leb (length line) 80) (read_short line) Bad long) ∙ h)))
-    (cases_Bool (leb (length line) 80))
+sound line c h = grind (arith, short_sound line c)
 
 -- what a written call is read as, from what its parts are read as
 ask_with : Option ℕ → Option ℕ → List ℕ → Option Call
@@ -142,7 +113,7 @@ ask_complete line core time r =
     let whole : line ≡ codes "ask" ++ text = r.whole ∙ ap (λ l. codes "ask" ++ (r.core_part ++ l)) (sym (append-nil r.time_part)) in
     let word = word_reads 0 (codes "ask") text (omega arith) (λ e. omega arith, (λ e. omega arith, (λ e. omega arith, tt))) p.opens in
     let call : read_call (codes "ask" ++ text) ≡ Some (Ask core time) = (λ i. read_command (word.0 i) (word.1 i)) ∙ ask_reads text t2 core time p.reads p.leaves q.reads q.leaves in
-    cond-true (leb (length line) 80) (read_short line) Bad (le-leb (length line) 80 r.fits) ∙ ap read_short whole ∙ ap play call
+    grind arith
 
 end_complete : (line : List ℕ) (core task time : ℕ) → EndLine line core task time → read line ≡ Play (End core task time)
 end_complete line core task time r =
@@ -155,7 +126,7 @@ end_complete line core task time r =
     let whole : line ≡ codes "end" ++ text = r.whole ∙ ap (λ l. codes "end" ++ (r.core_part ++ (r.task_part ++ l))) (sym (append-nil r.time_part)) in
     let word = word_reads 0 (codes "end") text (omega arith) (λ e. omega arith, (λ e. omega arith, (λ e. omega arith, tt))) p.opens in
     let call : read_call (codes "end" ++ text) ≡ Some (End core task time) = (λ i. read_command (word.0 i) (word.1 i)) ∙ end_reads text t2 t3 core task time p.reads p.leaves q.reads q.leaves s.reads s.leaves in
-    cond-true (leb (length line) 80) (read_short line) Bad (le-leb (length line) 80 r.fits) ∙ ap read_short whole ∙ ap play call
+    grind arith
 
 pub complete : (line : List ℕ) (c : Call) → Reads line c → read line ≡ Play c
 complete line (Ask core time) r = ask_complete line core time r

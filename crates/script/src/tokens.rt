@@ -59,7 +59,7 @@ fn number_value(word: &[u8]) -> Option<u32>
 }
 
 // The next part of a text, and the text after it.
-pub fn next_token<'a>(text: &'a [u8]) -> (Token<'a>, &'a [u8])
+pub fn next_token(text: &[u8]) -> (Token<'_>, &[u8])
     ensures token { TokenOf text.now result.0 }
     ensures rest { result.1.now ≡ after_word text.now }
 {
@@ -75,7 +75,7 @@ pub fn next_token<'a>(text: &'a [u8]) -> (Token<'a>, &'a [u8])
 }
 
 // The number that comes next, and the text after it.
-pub fn next_number<'a>(text: &'a [u8]) -> Option<(u32, &'a [u8])>
+pub fn next_number(text: &[u8]) -> Option<(u32, &[u8])>
     ensures { NumberOf text.now result }
 {
     match next_token(text) {
