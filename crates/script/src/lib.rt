@@ -11,7 +11,7 @@ mod tokens;
 
 use tokens::{Token, next_number, next_token};
 
-// What a line asks for.
+// What a line asks for. A `Result<Option<Call>, _>` would leave its three outcomes without their names.
 #[derive(Clone, Copy, PartialEq, Eq, Debug)]
 pub enum Line {
     // Nothing: the line is empty or a comment.
