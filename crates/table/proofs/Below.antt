@@ -1,6 +1,7 @@
 -- Tests over all numbers below a bound.
 use Rattle.std.proofs.Common.{◌≡◌, ℕ, zero, suc, ◌+◌, ◌-◌, ◌<◌, ◌≤◌, Bool, true, false, cond, ◌&&◌, ◌||◌, Some, None, Option, refl, ap, ◌∙◌, subst, ⊎_elim, arith}
 use Rattle.std.proofs.lemmas.Bool.{cases_Bool, cases_lt, and_parts, and_from, or_left, or_right, or_from, both_ways}
+use Rattle.std.specs.List.{range_with_len, list_any, find}
 use Rattle.table.specs.Below.{all_below, any_below, first_from}
 
 -- a test that holds of all numbers holds of each, and the other way round
@@ -81,3 +82,27 @@ module _ (f : ℕ → Bool) (i n : ℕ) (o : Option ℕ) (sofar : first_from f i
 
   pub first_done : n ≤ i → None ≡ o
   first_done l = let z : 0 ≡ n - i = omega arith in ap (first_from f i) z ∙ sofar
+
+-- a test of some number in a range, and the same from its other end
+or_swap : (a b c : Bool) → (a || (b || c)) ≡ (b || (a || c))
+or_swap true true c = refl
+or_swap true false c = refl
+or_swap false b c = refl
+
+range_more : (f : ℕ → Bool) (i n : ℕ) → list_any f (range_with_len i (suc n)) ≡ (f (i + n) || list_any f (range_with_len i n))
+range_more f i zero = let e : i ≡ i + zero = omega arith in ap (λ j. f j || false) e
+range_more f i (suc n) =
+    let e : i + 1 + n ≡ i + suc n = omega arith in
+    ap (λ b. f i || b) (range_more f (i + 1) n ∙ ap (λ j. f j || list_any f (range_with_len (i + 1) n)) e) ∙ or_swap (f i) (f (i + suc n)) (list_any f (range_with_len (i + 1) n))
+
+-- what `any` answers over the numbers below n
+pub any_of_range : (f : ℕ → Bool) (n : ℕ) → list_any f (range_with_len 0 n) ≡ any_below n f
+any_of_range f zero = refl
+any_of_range f (suc n) =
+    let e : 0 + n ≡ n = omega arith in
+    range_more f 0 n ∙ (ap (λ j. f j || list_any f (range_with_len 0 n)) e ∙ ap (λ b. f n || b) (any_of_range f n))
+
+-- what `find` answers over n numbers from i on
+pub first_of_range : (f : ℕ → Bool) (i n : ℕ) → find f (range_with_len i n) ≡ first_from f i n
+first_of_range f i zero = refl
+first_of_range f i (suc n) = let e : i + 1 ≡ suc i = omega arith in ap (λ o. cond (f i) (Some i) o) (first_of_range f (i + 1) n ∙ ap (λ j. first_from f j n) e)
