@@ -4,7 +4,7 @@ use Rattle.calls.specs.declared.Call.{Call}
 use Rattle.calls.specs.declared.Call.TheVariants.{Ask, End}
 use Rattle.script.specs.declared.Line.TheVariants.{Play}
 use Rattle.script.specs.Grammar.{spaces_off, word_length, next_word, after_word, number, then, close, read_ask, read_end, read_command, read_call, play, read_short, read}
-use Rattle.script.specs.Lines.{Numbered, AskLine, EndLine, Reads, ReadsExactly}
+use Rattle.script.specs.Lines.{AskLine, EndLine, Reads, ReadsExactly}
 use Rattle.script.proofs.Scan.{same_list}
 use Rattle.script.proofs.Parts.{Opens, opens_after, word_reads, part_reads, split}
 
@@ -30,15 +30,6 @@ played (Some x) c h = cc
 last_part : (text part rest : List ℕ) → text ≡ part ++ rest → rest ≡ [] → text ≡ part
 last_part text part rest whole none = whole ∙ ap (λ l. part ++ l) none ∙ append-nil part
 
--- a line from its parts
-ask_line : (line text t2 x y : List ℕ) (core time : ℕ) → line ≡ codes "ask" ++ text → text ≡ x ++ t2 → t2 ≡ y → Numbered x core → Numbered y time → length line ≤ 80 → AskLine line core time
-ask_line line text t2 x y core time w p q of_x of_y fits =
-    record { core_part = x; time_part = y; whole = w ∙ ap (λ l. codes "ask" ++ l) (p ∙ ap (λ l. x ++ l) q); of_core = of_x; of_time = of_y; fits = fits }
-
-end_line : (line text t2 t3 x y z : List ℕ) (core task time : ℕ) → line ≡ codes "end" ++ text → text ≡ x ++ t2 → t2 ≡ y ++ t3 → t3 ≡ z → Numbered x core → Numbered y task → Numbered z time → length line ≤ 80 → EndLine line core task time
-end_line line text t2 t3 x y z core task time w p q r of_x of_y of_z fits =
-    record { core_part = x; task_part = y; time_part = z; whole = w ∙ ap (λ l. codes "end" ++ l) (p ∙ ap (λ l. x ++ l) (q ∙ ap (λ l. y ++ l) r)); of_core = of_x; of_task = of_y; of_time = of_z; fits = fits }
-
 -- what is read after a command word was written there
 ask_sound : (line text : List ℕ) (c : Call) → Opens text → line ≡ codes "ask" ++ text → length line ≤ 80 → read_ask text ≡ Some c → Reads line c
 ask_sound line text c opens whole fits h =
@@ -49,7 +40,7 @@ ask_sound line text c opens whole fits h =
     let b = chosen (number (next_word t2)) (λ time. close t3 (Ask a.got time)) c a.goes in
     let q = split t2 b.got p.opens b.is in
     let e = closed t3 (Ask a.got b.got) c b.goes in
-    subst (Reads line) e.1 (ask_line line text t2 p.part q.part a.got b.got whole p.whole (last_part t2 q.part t3 q.whole e.0) p.numbered q.numbered fits)
+    subst (Reads line) e.1 (record { core_part = p.part; time_part = q.part; whole = cc (p.whole, last_part t2 q.part t3 q.whole e.0); of_core = p.numbered; of_time = q.numbered; fits = fits })
 
 end_sound : (line text : List ℕ) (c : Call) → Opens text → line ≡ codes "end" ++ text → length line ≤ 80 → read_end text ≡ Some c → Reads line c
 end_sound line text c opens whole fits h =
@@ -63,7 +54,7 @@ end_sound line text c opens whole fits h =
     let d = chosen (number (next_word t3)) (λ time. close t4 (End a.got b.got time)) c b.goes in
     let r = split t3 d.got q.opens d.is in
     let e = closed t4 (End a.got b.got d.got) c d.goes in
-    subst (Reads line) e.1 (end_line line text t2 t3 p.part q.part r.part a.got b.got d.got whole p.whole q.whole (last_part t3 r.part t4 r.whole e.0) p.numbered q.numbered r.numbered fits)
+    subst (Reads line) e.1 (record { core_part = p.part; task_part = q.part; time_part = r.part; whole = cc (p.whole, q.whole, last_part t3 r.part t4 r.whole e.0); of_core = p.numbered; of_task = q.numbered; of_time = r.numbered; fits = fits })
 
 -- the command word stands first
 command_sound : (line : List ℕ) (c : Call) → spaces_off line ≡ line → length line ≤ 80 → read_call line ≡ Some c → Reads line c
@@ -82,27 +73,11 @@ pub sound : (line : List ℕ) (c : Call) → read line ≡ Play c → Reads line
 sound line c h = grind (arith, short_sound line c)
 
 -- what a written call is read as, from what its parts are read as
-ask_with : Option ℕ → Option ℕ → List ℕ → Option Call
-ask_with o p text = then o (λ core. then p (λ time. close text (Ask core time)))
-
-end_with : Option ℕ → Option ℕ → Option ℕ → List ℕ → Option Call
-end_with o p q text = then o (λ core. then p (λ task. then q (λ time. close text (End core task time))))
-
 ask_reads : (text t2 : List ℕ) (core time : ℕ) → number (next_word text) ≡ Some core → after_word text ≡ t2 → number (next_word t2) ≡ Some time → after_word t2 ≡ [] → read_ask text ≡ Some (Ask core time)
-unfolding ask_with
-ask_reads text t2 core time a b c d =
-    let second : number (next_word (after_word text)) ≡ Some time = ap (λ l. number (next_word l)) b ∙ c in
-    let last : after_word (after_word text) ≡ [] = ap after_word b ∙ d in
-    λ i. ask_with (a i) (second i) (last i)
+ask_reads text t2 core time a b c d = grind arith
 
 end_reads : (text t2 t3 : List ℕ) (core task time : ℕ) → number (next_word text) ≡ Some core → after_word text ≡ t2 → number (next_word t2) ≡ Some task → after_word t2 ≡ t3 → number (next_word t3) ≡ Some time → after_word t3 ≡ [] → read_end text ≡ Some (End core task time)
-unfolding end_with
-end_reads text t2 t3 core task time a b c d e f =
-    let second : number (next_word (after_word text)) ≡ Some task = ap (λ l. number (next_word l)) b ∙ c in
-    let back : after_word (after_word text) ≡ t3 = ap after_word b ∙ d in
-    let third : number (next_word (after_word (after_word text))) ≡ Some time = ap (λ l. number (next_word l)) back ∙ e in
-    let last : after_word (after_word (after_word text)) ≡ [] = ap after_word back ∙ f in
-    λ i. end_with (a i) (second i) (third i) (last i)
+end_reads text t2 t3 core task time a b c d e f = grind arith
 
 ask_complete : (line : List ℕ) (core time : ℕ) → AskLine line core time → read line ≡ Play (Ask core time)
 ask_complete line core time r =
