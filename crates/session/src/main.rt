@@ -31,7 +31,7 @@ fn read_file(rt: &HostRuntime) -> io::Result<Vec<u8>> {
     Ok(bytes)
 }
 
-// The table in the file, if it can be read and holds one.
+// The table in the file, if it can be read and holds one. Unlike the walkthrough's, it gives no reason.
 fn read_table(rt: &HostRuntime) -> Option<Table> {
     let bytes = read_file(rt).ok()?;
     let mut table = Table::new();
@@ -80,7 +80,7 @@ impl Session {
 
     // Plays the whole input, and at its end what is left without a newline.
     fn play_input(&mut self, rt: &HostRuntime) -> io::Result<()> {
-        // A loop that waits on input, with a bound that no input reaches.
+        // The kit's form of a loop that waits on input: no input has so many parts.
         for _ in 0..u64::MAX {
             if !self.play_part(rt)? {
                 break;

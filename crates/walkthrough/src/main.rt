@@ -75,6 +75,7 @@ fn walk(rt: &HostRuntime) -> anyhow::Result<()> {
     run_one(rt, &mut board)
 }
 
+// An error is printed here, since one that `main` returns would be printed after the word `Error`.
 fn main(rt: HostRuntime) -> ExitCode {
     let Err(error) = walk(&rt) else {
         return ExitCode::SUCCESS;
