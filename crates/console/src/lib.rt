@@ -16,9 +16,8 @@ use std::fmt;
 
 pub mod buffer;
 pub mod feeding;
-pub mod filling;
 
-// What is shown for a line that is not silent.
+// What is shown for a line that is not silent. It is no `Result`, since only a type of this crate can have a `Display`.
 #[derive(Clone, Copy, PartialEq, Eq, Debug)]
 pub enum Shown {
     // The line breaks a rule.
@@ -31,7 +30,7 @@ impl fmt::Display for Shown {
     ghost output = { λ x. Some (words_of x) };
 
     fn fmt<W: fmt::Write>(&self, f: &mut fmt::Formatter<W>) -> fmt::Result {
-        match *self {
+        match self {
             Shown::Bad => write!(f, "bad"),
             Shown::Reply(reply) => write!(f, "{reply}"),
         }

@@ -1,5 +1,8 @@
-// Writes tables as bytes.
+// Writes tables as bytes, and loads them.
 use std::alloc::{AllocError, Global};
+use std::process::Abort;
+use std::test::Fail;
+use table::lawful::Table;
 use table::rows::{CoreSet, Row};
 
 // The header: the mark, the cores less one in 3 bits, the tasks in 9 and the frame's length in 28.
@@ -26,18 +29,15 @@ pub fn row(core: u8, start: u32, end: u32) -> Row {
         start,
         end,
         claim: 10,
-        inputs: CoreSet { bits: 0 },
+        inputs: CoreSet::NONE,
     }
 }
 
 // The same row, reading what the cores of these data bits write.
 pub fn reading(row: Row, bits: u8) -> Row {
     Row {
-        core: row.core,
-        start: row.start,
-        end: row.end,
-        claim: row.claim,
         inputs: CoreSet { bits },
+        ..row
     }
 }
 
@@ -49,6 +49,20 @@ pub fn written(heap: Global, cores: u64, ticks: u64, rows: &[Row]) -> Result<Vec
         bytes.extend_from_slice(&row_bytes(*row))?;
     }
     Ok(bytes)
+}
+
+// A table of these rows.
+pub fn loaded(
+    rt: &impl Abort,
+    heap: Global,
+    cores: u64,
+    ticks: u64,
+    rows: &[Row],
+) -> Result<Table, Fail> {
+    let bytes = written(heap, cores, ticks, rows)?;
+    let mut table = Table::new();
+    assert!(rt; table.load(bytes.as_slice()).is_ok());
+    Ok(table)
 }
 
 // The worked example: 3 cores, a frame of 80 ticks, every claim 10, no data bit.

@@ -1,5 +1,5 @@
 // Frames on the worked example, on both boards and under each rule, and at the edges of their calls.
-use crate::bytes::{example, reading, row, written};
+use crate::bytes::{example, loaded, reading, row};
 use board::Board;
 use board::cores::Step;
 use board::count::CountBoard;
@@ -14,22 +14,7 @@ use std::alloc::Global;
 use std::process::Abort;
 use std::test::Fail;
 use table::lawful::Table;
-use table::rows::Row;
 use vectors::vector_board::VectorBoard;
-
-// A table of these rows.
-fn loaded(
-    rt: &impl Abort,
-    heap: Global,
-    cores: u64,
-    ticks: u64,
-    rows: &[Row],
-) -> Result<Table, Fail> {
-    let bytes = written(heap, cores, ticks, rows)?;
-    let mut table = Table::new();
-    assert!(rt; table.load(bytes.as_slice()).is_ok());
-    Ok(table)
-}
 
 // The ask, and the answer to it.
 fn ask(core: u32, time: u32, answer: Answer) -> Event {
@@ -66,6 +51,11 @@ fn ahead() -> [Event; 15] {
         end(1, 5, 8),
         end(0, 3, 9),
     ]
+}
+
+// The rule by slack, while fewer tasks than this are loose.
+fn capped(most: u8) -> Capped<BySlack> {
+    Capped::new(most, BySlack)
 }
 
 // The frame gives these replies to these calls.
@@ -141,26 +131,12 @@ fn the_example_under_each_rule(rt: HostRuntime) -> Result<(), Fail> {
         &rt,
         heap,
         VectorBoard::new(),
-        Capped::new(1, BySlack),
+        capped(1),
         9,
         Answer::Loose(6),
     )?;
-    then_asked(
-        &rt,
-        heap,
-        CountBoard::new(),
-        Capped::new(1, BySlack),
-        31,
-        Answer::Hold(6),
-    )?;
-    then_asked(
-        &rt,
-        heap,
-        VectorBoard::new(),
-        Capped::new(0, BySlack),
-        9,
-        Answer::Hold(6),
-    )
+    then_asked(&rt, heap, CountBoard::new(), capped(1), 31, Answer::Hold(6))?;
+    then_asked(&rt, heap, VectorBoard::new(), capped(0), 9, Answer::Hold(6))
 }
 
 #[test]
@@ -274,10 +250,7 @@ fn a_frame_on_an_empty_table(rt: HostRuntime) {
 #[test]
 fn a_list_of_calls_is_played(rt: HostRuntime) -> Result<(), Fail> {
     let table = loaded(&rt, rt.alloc(), 3, 80, &example())?;
-    let mut counted = ahead();
-    for event in counted.iter_mut() {
-        *event = Event::new(event.call);
-    }
+    let mut counted = ahead().map(|event| Event::new(event.call));
     let mut noticed = counted;
     let left = play(&table, CountBoard::new(), BySlack, &mut counted);
     assert_eq!(rt; counted, ahead());

@@ -1,5 +1,5 @@
 // Load, its refusals at their edges, and what a refusal keeps.
-use crate::bytes::{example, header, reading, row, row_bytes, written};
+use crate::bytes::{example, header, loaded, reading, row, row_bytes, written};
 use std::process::Abort;
 use std::test::Fail;
 use table::lawful::Table;
@@ -7,88 +7,74 @@ use table::loading::check as check_table;
 use table::rows::Row;
 
 // The bytes load as a table of so many tasks.
-fn accepted(rt: &impl Abort, bytes: &[u8], tasks: u16) -> Result<(), Fail> {
+fn accepted(rt: &impl Abort, bytes: &[u8], tasks: u16) {
     let mut table = Table::new();
-    let Ok(told) = table.load(bytes) else {
-        return Err(Fail::new("refused"));
-    };
-    assert_eq!(rt; told, tasks);
+    assert_eq!(rt; table.load(bytes), Ok(tasks));
     assert_eq!(rt; table.tasks(), tasks);
-    Ok(())
 }
 
 // The bytes are refused with this number, row and offset.
-fn refused(
-    rt: &impl Abort,
-    bytes: &[u8],
-    number: u8,
-    row: Option<u16>,
-    offset: u32,
-) -> Result<(), Fail> {
-    let Err(fault) = check_table(bytes) else {
-        return Err(Fail::new("accepted"));
-    };
-    assert_eq!(rt; fault.number(), number);
-    assert_eq!(rt; fault.row(), row);
-    assert_eq!(rt; fault.offset(), offset);
-    Ok(())
+fn refused(rt: &impl Abort, bytes: &[u8], number: u8, row: Option<u16>, offset: u32) {
+    let told = check_table(bytes).map_err(|fault| (fault.number(), fault.row(), fault.offset()));
+    assert_eq!(rt; told, Err((number, row, offset)));
 }
 
 #[test]
 fn the_example_has_its_bytes(rt: HostRuntime) -> Result<(), Fail> {
     let bytes = written(rt.alloc(), 3, 80, &example())?;
-    assert!(rt; bytes.len() == 116);
+    assert_eq!(rt; bytes.len(), 116);
     assert_eq!(rt; header(3, 10, 80), [0x57, 0x40, 0xA0, 0x00, 0x00, 0x50]);
     assert_eq!(rt;
         row_bytes(row(1, 60, 70)),
         [0x20, 0, 0, 0x78, 0, 0, 0x08, 0xC0, 0, 0x0A, 0]
     );
-    accepted(&rt, bytes.as_slice(), 10)
+    accepted(&rt, bytes.as_slice(), 10);
+    Ok(())
 }
 
 #[test]
-fn too_short_or_unmarked_is_no_table(rt: HostRuntime) -> Result<(), Fail> {
-    refused(&rt, &[], 1, None, 0)?;
-    refused(&rt, &[87, 0, 0x10, 0, 0], 1, None, 0)?;
-    refused(&rt, &[88, 0, 0x10, 0, 0, 1], 1, None, 0)?;
-    refused(&rt, &[87, 0, 0x10, 0, 0, 1], 3, None, 48)
+fn too_short_or_unmarked_is_no_table(rt: HostRuntime) {
+    refused(&rt, &[], 1, None, 0);
+    refused(&rt, &[87, 0, 0x10, 0, 0], 1, None, 0);
+    refused(&rt, &[88, 0, 0x10, 0, 0, 1], 1, None, 0);
+    refused(&rt, &[87, 0, 0x10, 0, 0, 1], 3, None, 48);
 }
 
 #[test]
 fn at_most_384_tasks(rt: HostRuntime) -> Result<(), Fail> {
-    refused(&rt, &header(1, 0, 1), 2, None, 11)?;
-    refused(&rt, &header(1, 385, 1), 2, None, 11)?;
-    refused(&rt, &header(1, 384, 1), 3, None, 48)?;
-    let mut rows: Vec<Row> = Vec::new(rt.alloc());
-    for t in 0..384 {
-        rows.push(row(0, t, t + 1))?;
-    }
+    refused(&rt, &header(1, 0, 1), 2, None, 11);
+    refused(&rt, &header(1, 385, 1), 2, None, 11);
+    refused(&rt, &header(1, 384, 1), 3, None, 48);
+    let mut rows: Vec<Row> = (0..384).map(|t| row(0, t, t + 1)).collect(rt.alloc())?;
     let bytes = written(rt.alloc(), 1, 384, rows.as_slice())?;
-    accepted(&rt, bytes.as_slice(), 384)?;
+    accepted(&rt, bytes.as_slice(), 384);
     rows.push(row(0, 384, 385))?;
     let bytes = written(rt.alloc(), 1, 385, rows.as_slice())?;
-    refused(&rt, bytes.as_slice(), 2, None, 11)
+    refused(&rt, bytes.as_slice(), 2, None, 11);
+    Ok(())
 }
 
 #[test]
 fn each_row_is_on_a_core_of_the_table(rt: HostRuntime) -> Result<(), Fail> {
     let bytes = written(rt.alloc(), 2, 9, &[row(0, 0, 9), row(1, 0, 9)])?;
-    accepted(&rt, bytes.as_slice(), 2)?;
+    accepted(&rt, bytes.as_slice(), 2);
     let bytes = written(rt.alloc(), 1, 9, &[row(0, 0, 9), row(1, 0, 9)])?;
-    refused(&rt, bytes.as_slice(), 4, Some(1), 136)
+    refused(&rt, bytes.as_slice(), 4, Some(1), 136);
+    Ok(())
 }
 
 #[test]
 fn each_span_lies_inside_the_frame(rt: HostRuntime) -> Result<(), Fail> {
     let bytes = written(rt.alloc(), 1, 9, &[row(0, 8, 9)])?;
-    accepted(&rt, bytes.as_slice(), 1)?;
+    accepted(&rt, bytes.as_slice(), 1);
     let bytes = written(rt.alloc(), 1, 9, &[row(0, 9, 9)])?;
-    refused(&rt, bytes.as_slice(), 5, Some(0), 51)?;
+    refused(&rt, bytes.as_slice(), 5, Some(0), 51);
     let bytes = written(rt.alloc(), 1, 8, &[row(0, 8, 9)])?;
-    refused(&rt, bytes.as_slice(), 5, Some(0), 51)?;
+    refused(&rt, bytes.as_slice(), 5, Some(0), 51);
     let last = 268_435_455;
     let bytes = written(rt.alloc(), 1, 268_435_455, &[row(0, last - 1, last)])?;
-    accepted(&rt, bytes.as_slice(), 1)
+    accepted(&rt, bytes.as_slice(), 1);
+    Ok(())
 }
 
 #[test]
@@ -99,14 +85,15 @@ fn rows_of_one_core_stand_in_order(rt: HostRuntime) -> Result<(), Fail> {
         60,
         &[row(0, 0, 40), row(1, 0, 60), row(0, 40, 50)],
     )?;
-    accepted(&rt, bytes.as_slice(), 3)?;
+    accepted(&rt, bytes.as_slice(), 3);
     let bytes = written(
         rt.alloc(),
         2,
         60,
         &[row(0, 0, 40), row(1, 0, 60), row(0, 39, 50)],
     )?;
-    refused(&rt, bytes.as_slice(), 6, Some(2), 227)
+    refused(&rt, bytes.as_slice(), 6, Some(2), 227);
+    Ok(())
 }
 
 #[test]
@@ -118,35 +105,24 @@ fn data_bits_name_a_core_that_has_written(rt: HostRuntime) -> Result<(), Fail> {
         60,
         &[reading(row(0, 40, 50), 2), row(1, 0, 40)],
     )?;
-    accepted(&rt, bytes.as_slice(), 2)?;
+    accepted(&rt, bytes.as_slice(), 2);
     let bytes = written(
         rt.alloc(),
         3,
         60,
         &[reading(row(0, 39, 50), 2), row(1, 0, 40)],
     )?;
-    refused(&rt, bytes.as_slice(), 7, Some(0), 128)?;
-    let bytes = written(
-        rt.alloc(),
-        3,
-        60,
-        &[row(1, 0, 40), reading(row(0, 40, 50), 1)],
-    )?;
-    refused(&rt, bytes.as_slice(), 7, Some(1), 216)?;
-    let bytes = written(
-        rt.alloc(),
-        3,
-        60,
-        &[row(1, 0, 40), reading(row(0, 40, 50), 6)],
-    )?;
-    refused(&rt, bytes.as_slice(), 7, Some(1), 216)?;
-    let bytes = written(
-        rt.alloc(),
-        3,
-        60,
-        &[row(1, 0, 40), reading(row(0, 40, 50), 130)],
-    )?;
-    refused(&rt, bytes.as_slice(), 7, Some(1), 216)
+    refused(&rt, bytes.as_slice(), 7, Some(0), 128);
+    for bits in [1, 6, 130] {
+        let bytes = written(
+            rt.alloc(),
+            3,
+            60,
+            &[row(1, 0, 40), reading(row(0, 40, 50), bits)],
+        )?;
+        refused(&rt, bytes.as_slice(), 7, Some(1), 216);
+    }
+    Ok(())
 }
 
 #[test]
@@ -158,10 +134,11 @@ fn an_earlier_question_is_asked_first(rt: HostRuntime) -> Result<(), Fail> {
         60,
         &[reading(row(0, 0, 40), 1), row(1, 0, 40)],
     )?;
-    refused(&rt, bytes.as_slice(), 4, Some(1), 136)?;
+    refused(&rt, bytes.as_slice(), 4, Some(1), 136);
     // Row 0 starts at its end, row 1 is on no core: all of row 0 before row 1.
     let bytes = written(rt.alloc(), 1, 60, &[row(0, 40, 40), row(1, 0, 40)])?;
-    refused(&rt, bytes.as_slice(), 5, Some(0), 51)
+    refused(&rt, bytes.as_slice(), 5, Some(0), 51);
+    Ok(())
 }
 
 #[test]
@@ -186,9 +163,7 @@ fn a_refused_load_keeps_the_former_table(rt: HostRuntime) -> Result<(), Fail> {
 
 #[test]
 fn waits_of_the_example(rt: HostRuntime) -> Result<(), Fail> {
-    let mut table = Table::new();
-    let bytes = written(rt.alloc(), 3, 80, &example())?;
-    assert!(rt; table.load(bytes.as_slice()).is_ok());
+    let table = loaded(&rt, rt.alloc(), 3, 80, &example())?;
     assert_eq!(rt; table.wait(6, 0), 3);
     assert_eq!(rt; table.wait(6, 2), 2);
     assert_eq!(rt; table.wait(0, 1), 0);

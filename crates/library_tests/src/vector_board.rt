@@ -1,10 +1,9 @@
 // The vector board on the example table, and on a table where one wait is handed on twice.
-use crate::bytes::{example, row, written};
+use crate::bytes::{example, loaded, row};
 use board::Board;
 use std::alloc::Global;
 use std::process::Abort;
 use std::test::Fail;
-use table::lawful::Table;
 use table::rows::{CoreSet, Row};
 use vectors::vector_board::VectorBoard;
 
@@ -16,11 +15,8 @@ fn opened(
     ticks: u64,
     rows: &[Row],
 ) -> Result<VectorBoard, Fail> {
-    let bytes = written(heap, cores, ticks, rows)?;
-    let mut table = Table::new();
-    assert!(rt; table.load(bytes.as_slice()).is_ok());
     let mut board = VectorBoard::new();
-    board.open(&table);
+    board.open(&loaded(rt, heap, cores, ticks, rows)?);
     Ok(board)
 }
 

@@ -1,11 +1,10 @@
 -- A line is read as a call just where it writes that call.
-use Rattle.std.proofs.Common.{◌≡◌, ℕ, ◌≤◌, cond, eqb, leb, List, [], ◌∷◌, ◌++◌, length, Some, None, codes, Option, sym, refl, ap, ◌∙◌, subst, ⊎_elim, append-nil, arith, take-append-drop}
-use Rattle.std.proofs.lemmas.Bool.{le-leb, leb-true, cond-true, cond-false, cases_Bool}
+use Rattle.std.proofs.Common.{◌≡◌, ℕ, ◌≤◌, List, [], ◌∷◌, ◌++◌, length, Some, None, codes, Option, sym, refl, ap, ◌∙◌, subst, append-nil, arith, take-append-drop}
 use Rattle.calls.specs.declared.Call.{Call}
 use Rattle.calls.specs.declared.Call.TheVariants.{Ask, End}
-use Rattle.script.specs.declared.Line.TheVariants.{Silent, Play, Bad}
-use Rattle.script.specs.Grammar.{spaces_off, word_length, next_word, after_word, number, then, same, close, read_ask, read_end, read_command, read_call, play, read_short, read}
-use Rattle.script.specs.Lines.{Numbered, AskLine, EndLine, Reads, ReadsExactly}
+use Rattle.script.specs.declared.Line.TheVariants.{Play}
+use Rattle.script.specs.Grammar.{spaces_off, word_length, next_word, after_word, number, then, close, read_ask, read_end, read_command, read_call, play, read_short, read}
+use Rattle.script.specs.Lines.{AskLine, EndLine, Reads, ReadsExactly}
 use Rattle.script.proofs.Scan.{same_list}
 use Rattle.script.proofs.Parts.{Opens, opens_after, word_reads, part_reads, split}
 
@@ -16,35 +15,20 @@ record Chosen {A B : Type 0} (o : Option A) (f : A → Option B) (y : B) : Type 
   goes : f got ≡ Some y
 
 chosen : {A B : Type 0} (o : Option A) (f : A → Option B) (y : B) → then o f ≡ Some y → Chosen o f y
-chosen None f y h = let z : ◌≡◌ {A = ℕ} 0 1 = cc in absurd (omega arith)
+chosen None f y h = cc
 chosen (Some x) f y h = record { got = x; is = refl; goes = h }
 
 closed : (text : List ℕ) (call c : Call) → close text call ≡ Some c → (text ≡ []) × (call ≡ c)
 closed [] call c h = (refl, cc)
-closed (b ∷ bs) call c h = let z : ◌≡◌ {A = ℕ} 0 1 = cc in absurd (omega arith)
+closed (b ∷ bs) call c h = cc
 
 played : (o : Option Call) (c : Call) → play o ≡ Play c → o ≡ Some c
-played None c h = let z : ◌≡◌ {A = ℕ} 0 1 = cc in absurd (omega arith)
+played None c h = cc
 played (Some x) c h = cc
-
-not_silent : (c : Call) → Silent ≡ Play c → ⊥
-not_silent c h = let z : ◌≡◌ {A = ℕ} 0 1 = cc in omega arith
-
-not_bad : (c : Call) → Bad ≡ Play c → ⊥
-not_bad c h = let z : ◌≡◌ {A = ℕ} 0 1 = cc in omega arith
 
 -- nothing stands after the last part
 last_part : (text part rest : List ℕ) → text ≡ part ++ rest → rest ≡ [] → text ≡ part
 last_part text part rest whole none = whole ∙ ap (λ l. part ++ l) none ∙ append-nil part
-
--- a line from its parts
-ask_line : (line text t2 x y : List ℕ) (core time : ℕ) → line ≡ codes "ask" ++ text → text ≡ x ++ t2 → t2 ≡ y → Numbered x core → Numbered y time → length line ≤ 80 → AskLine line core time
-ask_line line text t2 x y core time w p q of_x of_y fits =
-    record { core_part = x; time_part = y; whole = w ∙ ap (λ l. codes "ask" ++ l) (p ∙ ap (λ l. x ++ l) q); of_core = of_x; of_time = of_y; fits = fits }
-
-end_line : (line text t2 t3 x y z : List ℕ) (core task time : ℕ) → line ≡ codes "end" ++ text → text ≡ x ++ t2 → t2 ≡ y ++ t3 → t3 ≡ z → Numbered x core → Numbered y task → Numbered z time → length line ≤ 80 → EndLine line core task time
-end_line line text t2 t3 x y z core task time w p q r of_x of_y of_z fits =
-    record { core_part = x; task_part = y; time_part = z; whole = w ∙ ap (λ l. codes "end" ++ l) (p ∙ ap (λ l. x ++ l) (q ∙ ap (λ l. y ++ l) r)); of_core = of_x; of_task = of_y; of_time = of_z; fits = fits }
 
 -- what is read after a command word was written there
 ask_sound : (line text : List ℕ) (c : Call) → Opens text → line ≡ codes "ask" ++ text → length line ≤ 80 → read_ask text ≡ Some c → Reads line c
@@ -56,7 +40,7 @@ ask_sound line text c opens whole fits h =
     let b = chosen (number (next_word t2)) (λ time. close t3 (Ask a.got time)) c a.goes in
     let q = split t2 b.got p.opens b.is in
     let e = closed t3 (Ask a.got b.got) c b.goes in
-    subst (Reads line) e.1 (ask_line line text t2 p.part q.part a.got b.got whole p.whole (last_part t2 q.part t3 q.whole e.0) p.numbered q.numbered fits)
+    subst (Reads line) e.1 (record { core_part = p.part; time_part = q.part; whole = cc (p.whole, last_part t2 q.part t3 q.whole e.0); of_core = p.numbered; of_time = q.numbered; fits = fits })
 
 end_sound : (line text : List ℕ) (c : Call) → Opens text → line ≡ codes "end" ++ text → length line ≤ 80 → read_end text ≡ Some c → Reads line c
 end_sound line text c opens whole fits h =
@@ -70,7 +54,7 @@ end_sound line text c opens whole fits h =
     let d = chosen (number (next_word t3)) (λ time. close t4 (End a.got b.got time)) c b.goes in
     let r = split t3 d.got q.opens d.is in
     let e = closed t4 (End a.got b.got d.got) c d.goes in
-    subst (Reads line) e.1 (end_line line text t2 t3 p.part q.part r.part a.got b.got d.got whole p.whole q.whole (last_part t3 r.part t4 r.whole e.0) p.numbered q.numbered r.numbered fits)
+    subst (Reads line) e.1 (record { core_part = p.part; task_part = q.part; time_part = r.part; whole = cc (p.whole, q.whole, last_part t3 r.part t4 r.whole e.0); of_core = p.numbered; of_task = q.numbered; of_time = r.numbered; fits = fits })
 
 -- the command word stands first
 command_sound : (line : List ℕ) (c : Call) → spaces_off line ≡ line → length line ≤ 80 → read_call line ≡ Some c → Reads line c
@@ -79,59 +63,21 @@ command_sound line c dark fits h =
     let text = after_word line in
     let cut : word ++ text ≡ line = take-append-drop (word_length (spaces_off line)) (spaces_off line) ∙ dark in
     let opens = opens_after (spaces_off line) in
-    ⊎_elim
-    (λ is. ask_sound line text c opens (sym cut ∙ ap (λ w. w ++ text) (same_list word (codes "ask") is)) fits (sym (cond-true (same word (codes "ask")) _ _ is) ∙ h))
-    (λ other.
-    let next = sym (cond-false (same word (codes "ask")) (read_ask text) (cond (same word (codes "end")) (read_end text) None) other) ∙ h in
-    ⊎_elim
-    (λ is. end_sound line text c opens (sym cut ∙ ap (λ w. w ++ text) (same_list word (codes "end") is)) fits (sym (cond-true (same word (codes "end")) _ _ is) ∙ next))
-    (λ neither. let none : None ≡ Some c = sym (cond-false (same word (codes "end")) (read_end text) None neither) ∙ next in let z : ◌≡◌ {A = ℕ} 0 1 = cc in absurd (omega arith))
-    (cases_Bool (same word (codes "end"))))
-    (cases_Bool (same word (codes "ask")))
+    grind (arith, same_list word, ask_sound line text c opens, end_sound line text c opens)
 
 short_sound : (line : List ℕ) (c : Call) → length line ≤ 80 → read_short line ≡ Play c → Reads line c
-short_sound [] c fits h = absurd (not_silent c h)
-short_sound (b ∷ bs) c fits h =
-    let inner = cond (eqb b 32) Bad (play (read_call (b ∷ bs))) in
-    ⊎_elim
-    (λ is. absurd (not_silent c (sym (cond-true (eqb b 35) Silent inner is) ∙ h)))
-    (λ other.
-    let next : inner ≡ Play c = sym (cond-false (eqb b 35) Silent inner other) ∙ h in
-    ⊎_elim
-    (λ is. absurd (not_bad c (sym (cond-true (eqb b 32) Bad (play (read_call (b ∷ bs))) is) ∙ next)))
-    (λ dark. command_sound (b ∷ bs) c (cond-false (eqb b 32) (spaces_off bs) (b ∷ bs) dark) fits (played (read_call (b ∷ bs)) c (sym (cond-false (eqb b 32) Bad (play (read_call (b ∷ bs))) dark) ∙ next)))
-    (cases_Bool (eqb b 32)))
-    (cases_Bool (eqb b 35))
+short_sound [] c fits h = cc
+short_sound (b ∷ bs) c fits h = grind (arith, command_sound (b ∷ bs) c, played (read_call (b ∷ bs)) c)
 
 pub sound : (line : List ℕ) (c : Call) → read line ≡ Play c → Reads line c
-sound line c h =
-    ⊎_elim
-    (λ is. short_sound line c (leb-true (length line) 80 is) (sym (cond-true (leb (length line) 80) (read_short line) Bad is) ∙ h))
-    (λ long. absurd (not_bad c (sym (cond-false (leb (length line) 80) (read_short line) Bad long) ∙ h)))
-    (cases_Bool (leb (length line) 80))
+sound line c h = grind (arith, short_sound line c)
 
 -- what a written call is read as, from what its parts are read as
-ask_with : Option ℕ → Option ℕ → List ℕ → Option Call
-ask_with o p text = then o (λ core. then p (λ time. close text (Ask core time)))
-
-end_with : Option ℕ → Option ℕ → Option ℕ → List ℕ → Option Call
-end_with o p q text = then o (λ core. then p (λ task. then q (λ time. close text (End core task time))))
-
 ask_reads : (text t2 : List ℕ) (core time : ℕ) → number (next_word text) ≡ Some core → after_word text ≡ t2 → number (next_word t2) ≡ Some time → after_word t2 ≡ [] → read_ask text ≡ Some (Ask core time)
-unfolding ask_with
-ask_reads text t2 core time a b c d =
-    let second : number (next_word (after_word text)) ≡ Some time = ap (λ l. number (next_word l)) b ∙ c in
-    let last : after_word (after_word text) ≡ [] = ap after_word b ∙ d in
-    λ i. ask_with (a i) (second i) (last i)
+ask_reads text t2 core time a b c d = grind arith
 
 end_reads : (text t2 t3 : List ℕ) (core task time : ℕ) → number (next_word text) ≡ Some core → after_word text ≡ t2 → number (next_word t2) ≡ Some task → after_word t2 ≡ t3 → number (next_word t3) ≡ Some time → after_word t3 ≡ [] → read_end text ≡ Some (End core task time)
-unfolding end_with
-end_reads text t2 t3 core task time a b c d e f =
-    let second : number (next_word (after_word text)) ≡ Some task = ap (λ l. number (next_word l)) b ∙ c in
-    let back : after_word (after_word text) ≡ t3 = ap after_word b ∙ d in
-    let third : number (next_word (after_word (after_word text))) ≡ Some time = ap (λ l. number (next_word l)) back ∙ e in
-    let last : after_word (after_word (after_word text)) ≡ [] = ap after_word back ∙ f in
-    λ i. end_with (a i) (second i) (third i) (last i)
+end_reads text t2 t3 core task time a b c d e f = grind arith
 
 ask_complete : (line : List ℕ) (core time : ℕ) → AskLine line core time → read line ≡ Play (Ask core time)
 ask_complete line core time r =
@@ -142,7 +88,7 @@ ask_complete line core time r =
     let whole : line ≡ codes "ask" ++ text = r.whole ∙ ap (λ l. codes "ask" ++ (r.core_part ++ l)) (sym (append-nil r.time_part)) in
     let word = word_reads 0 (codes "ask") text (omega arith) (λ e. omega arith, (λ e. omega arith, (λ e. omega arith, tt))) p.opens in
     let call : read_call (codes "ask" ++ text) ≡ Some (Ask core time) = (λ i. read_command (word.0 i) (word.1 i)) ∙ ask_reads text t2 core time p.reads p.leaves q.reads q.leaves in
-    cond-true (leb (length line) 80) (read_short line) Bad (le-leb (length line) 80 r.fits) ∙ ap read_short whole ∙ ap play call
+    grind arith
 
 end_complete : (line : List ℕ) (core task time : ℕ) → EndLine line core task time → read line ≡ Play (End core task time)
 end_complete line core task time r =
@@ -155,7 +101,7 @@ end_complete line core task time r =
     let whole : line ≡ codes "end" ++ text = r.whole ∙ ap (λ l. codes "end" ++ (r.core_part ++ (r.task_part ++ l))) (sym (append-nil r.time_part)) in
     let word = word_reads 0 (codes "end") text (omega arith) (λ e. omega arith, (λ e. omega arith, (λ e. omega arith, tt))) p.opens in
     let call : read_call (codes "end" ++ text) ≡ Some (End core task time) = (λ i. read_command (word.0 i) (word.1 i)) ∙ end_reads text t2 t3 core task time p.reads p.leaves q.reads q.leaves s.reads s.leaves in
-    cond-true (leb (length line) 80) (read_short line) Bad (le-leb (length line) 80 r.fits) ∙ ap read_short whole ∙ ap play call
+    grind arith
 
 pub complete : (line : List ℕ) (c : Call) → Reads line c → read line ≡ Play c
 complete line (Ask core time) r = ask_complete line core time r

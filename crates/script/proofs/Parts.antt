@@ -1,7 +1,7 @@
 -- A text as spaces, a word and what follows: taken apart, and put together.
-use Rattle.std.proofs.Common.{◌≡◌, ℕ, zero, suc, ◌≤◌, cond, eqb, List, [], ◌∷◌, ◌++◌, length, take, drop, Some, sym, refl, ap, ◌∙◌, subst, ⊎_elim, append_assoc, arith, take-append-drop}
+use Rattle.std.proofs.Common.{◌≡◌, ℕ, zero, suc, ◌≤◌, eqb, List, [], ◌∷◌, ◌++◌, length, take, drop, Some, sym, refl, ap, ◌∙◌, subst, ⊎_elim, append_assoc, arith, take-append-drop}
 use Rattle.std.proofs.lemmas.List.{take_at, drop_at}
-use Rattle.std.proofs.lemmas.Bool.{eqb-true, eq-eqb, ne_eqb, cond-true, cond-false, cases_Bool}
+use Rattle.std.proofs.lemmas.Bool.{cases_Bool}
 use Rattle.std.specs.List.{AllByRecursion}
 use Rattle.script.specs.Grammar.{spaces_off, word_length, next_word, after_word, number}
 use Rattle.script.specs.Lines.{spaces, Digit, Numbered}
@@ -22,33 +22,24 @@ front [] = (0, refl)
 front (b ∷ bs) =
     let more = front bs in
     ⊎_elim
-    (λ is. let a : b ≡ 32 = eqb-true b 32 is in
-    let off = cond-true (eqb b 32) (spaces_off bs) (b ∷ bs) is in
-    let rest = more.1 in
-    let here : b ∷ bs ≡ 32 ∷ (spaces more.0 ++ spaces_off bs) = cc in
-    (suc more.0, here ∙ ap (λ l. 32 ∷ (spaces more.0 ++ l)) (sym off)))
-    (λ is. (0, sym (cond-false (eqb b 32) (spaces_off bs) (b ∷ bs) is)))
+    (λ is. (suc more.0, grind arith))
+    (λ is. (0, grind arith))
     (cases_Bool (eqb b 32))
 
 -- what follows a word is empty or begins with a space
 pub opens_after : (text : List ℕ) → Opens (drop (word_length text) text)
 opens_after [] = tt
-opens_after (b ∷ bs) =
-    let more = opens_after bs in
-    ⊎_elim
-    (λ is. subst (λ n. Opens (drop n (b ∷ bs))) (sym (cond-true (eqb b 32) 0 (suc (word_length bs)) is)) (eqb-true b 32 is))
-    (λ is. subst (λ n. Opens (drop n (b ∷ bs))) (sym (cond-false (eqb b 32) 0 (suc (word_length bs)) is)) more)
-    (cases_Bool (eqb b 32))
+opens_after (b ∷ bs) = let more = opens_after bs in grind arith
 
 -- a word before a space or the end is as long as it is
 pub word_length_is : (w rest : List ℕ) → AllByRecursion Dark w → Opens rest → word_length (w ++ rest) ≡ length w
-word_length_is [] [] dark open_rest = refl
-word_length_is [] (b ∷ bs) dark opens = ap (λ x. cond (eqb x 32) 0 (suc (word_length bs))) opens
-word_length_is (b ∷ w) rest dark opens = cond-false _ _ _ (ne_eqb b 32 dark.0) ∙ ap suc (word_length_is w rest dark.1 opens)
+word_length_is [] [] dark opens = refl
+word_length_is [] (b ∷ bs) dark opens = grind arith
+word_length_is (b ∷ w) rest dark opens = grind (arith, word_length_is w rest)
 
 pub spaces_off_word : (w rest : List ℕ) → 1 ≤ length w → AllByRecursion Dark w → spaces_off (w ++ rest) ≡ w ++ rest
 spaces_off_word [] rest some dark = absurd (omega arith)
-spaces_off_word (b ∷ w) rest some dark = cond-false _ _ _ (ne_eqb b 32 dark.0)
+spaces_off_word (b ∷ w) rest some dark = grind arith
 
 pub spaces_off_spaces : (k : ℕ) (text : List ℕ) → spaces_off (spaces k ++ text) ≡ spaces_off text
 spaces_off_spaces zero text = refl
@@ -95,12 +86,7 @@ pub record Split (text : List ℕ) (n : ℕ) : Type 0 where
 -- a text that begins with a space begins with some number of them, and then has its next word
 front_some : (text : List ℕ) → Opens text → 1 ≤ length (next_word text) → (k : ℕ) × (text ≡ spaces (suc k) ++ spaces_off text)
 front_some [] opens some = absurd (omega arith)
-front_some (b ∷ bs) opens some =
-    let more = front bs in
-    let rest = more.1 in
-    let off : spaces_off (b ∷ bs) ≡ spaces_off bs = cond-true (eqb b 32) (spaces_off bs) (b ∷ bs) (eq-eqb b 32 opens) in
-    let here : b ∷ bs ≡ 32 ∷ (spaces more.0 ++ spaces_off bs) = cc in
-    (more.0, here ∙ ap (λ l. 32 ∷ (spaces more.0 ++ l)) (sym off))
+front_some (b ∷ bs) opens some = let more = front bs in (more.0, grind arith)
 
 pub split : (text : List ℕ) (n : ℕ) → Opens text → number (next_word text) ≡ Some n → Split text n
 split text n opens h =

@@ -11,7 +11,7 @@ mod tokens;
 
 use tokens::{Token, next_number, next_token};
 
-// What a line asks for.
+// What a line asks for. A `Result<Option<Call>, _>` would leave its three outcomes without their names.
 #[derive(Clone, Copy, PartialEq, Eq, Debug)]
 pub enum Line {
     // Nothing: the line is empty or a comment.
@@ -55,6 +55,7 @@ fn end_call(text: &[u8]) -> Option<Call>
 }
 
 // The call of a command word and of what follows it.
+#[tactic(auto, using(crate::proofs::Scan::command_none))]
 fn command_call(word: &[u8], text: &[u8]) -> Option<Call>
     ensures { result ≡ read_command word.now text.now }
 {
@@ -66,23 +67,13 @@ fn command_call(word: &[u8], text: &[u8]) -> Option<Call>
 }
 
 // The call that a line writes, if it writes one.
+#[tactic(auto, using(crate::proofs::Scan::number_none))]
 fn line_call(line: &[u8]) -> Option<Call>
     ensures { result ≡ read_call line.now }
 {
     match next_token(line) {
         (Token::Word(word), rest) => command_call(word, rest),
-        (Token::Number(_), _) => None,
-        (Token::End, _) => None,
-    }
-}
-
-// A line that writes no call is bad.
-fn played(call: Option<Call>) -> Line
-    ensures { result ≡ play call }
-{
-    match call {
-        Some(call) => Line::Play(call),
-        None => Line::Bad,
+        (Token::Number(_) | Token::End, _) => None,
     }
 }
 
@@ -92,16 +83,14 @@ fn short_line(line: &[u8]) -> Line
     ensures { result ≡ read line.now }
 {
     match line {
-        [] => Line::Silent,
-        [first, _rest @ ..] => match *first {
-            b'#' => Line::Silent,
-            b' ' => Line::Bad,
-            _ => played(line_call(line)),
-        },
+        [] | [b'#', ..] => Line::Silent,
+        [b' ', ..] => Line::Bad,
+        _ => line_call(line).map_or(Line::Bad, Line::Play),
     }
 }
 
 // What a line asks for.
+#[tactic(auto, using(crate::proofs::Exactly::reads_exactly))]
 pub fn read_line(line: &[u8]) -> Line
     ensures answer { result ≡ read line.now }
     ensures exactly { ReadsExactly line.now }

@@ -19,12 +19,8 @@ fn without_spaces(text: &[u8]) -> &[u8]
     ensures { result.now ≡ spaces_off text.now }
 {
     match text {
-        [] => text,
-        [first, rest @ ..] => if *first == b' ' {
-            without_spaces(rest)
-        } else {
-            text
-        },
+        [b' ', rest @ ..] => without_spaces(rest),
+        _ => text,
     }
 }
 
@@ -33,25 +29,20 @@ fn word_len(text: &[u8]) -> usize
     ensures value { result ≡ word_length text.now }
     ensures within { result ≤ length text.now }
 {
-    for (n, byte) in text.iter().enumerate() {
-        if *byte == b' ' {
-            return n;
-        }
-    }
-    text.len()
+    text.iter()
+        .position(|byte| *byte == b' ')
+        .unwrap_or(text.len())
 }
 
 // The number that the bytes write, if all of them are digits.
+#[tactic(auto, using(crate::proofs::Scan::tens_below))]
 fn digits_number(digits: &[u8]) -> Option<u32>
     requires { length digits.now ≤ 9 }
     ensures { result ≡ digits_value 0 digits.now }
 {
     let mut value = 0;
     for byte in digits {
-        match *byte {
-            b'0'..=b'9' => value = 10 * value + u32::from(*byte - b'0'),
-            _ => return None,
-        }
+        value = 10 * value + char::from(*byte).to_digit(10)?;
     }
     Some(value)
 }
@@ -60,15 +51,15 @@ fn digits_number(digits: &[u8]) -> Option<u32>
 fn number_value(word: &[u8]) -> Option<u32>
     ensures { result ≡ number word.now }
 {
-    if word.is_empty() || word.len() > MOST_DIGITS {
-        None
-    } else {
+    if (1..=MOST_DIGITS).contains(&word.len()) {
         digits_number(word)
+    } else {
+        None
     }
 }
 
 // The next part of a text, and the text after it.
-pub fn next_token<'a>(text: &'a [u8]) -> (Token<'a>, &'a [u8])
+pub fn next_token(text: &[u8]) -> (Token<'_>, &[u8])
     ensures token { TokenOf text.now result.0 }
     ensures rest { result.1.now ≡ after_word text.now }
 {
@@ -77,6 +68,7 @@ pub fn next_token<'a>(text: &'a [u8]) -> (Token<'a>, &'a [u8])
     }
     let text = without_spaces(text);
     let (word, rest) = text.split_at(word_len(text));
+    // Not `map_or`: a variant that borrows, passed as a function, gets no generated proof.
     match number_value(word) {
         Some(value) => (Token::Number(value), rest),
         None => (Token::Word(word), rest),
@@ -84,7 +76,7 @@ pub fn next_token<'a>(text: &'a [u8]) -> (Token<'a>, &'a [u8])
 }
 
 // The number that comes next, and the text after it.
-pub fn next_number<'a>(text: &'a [u8]) -> Option<(u32, &'a [u8])>
+pub fn next_number(text: &[u8]) -> Option<(u32, &[u8])>
     ensures { NumberOf text.now result }
 {
     match next_token(text) {

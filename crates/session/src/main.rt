@@ -4,7 +4,7 @@
 use board::Board;
 use console::buffer::LineBuffer;
 use console::feeding::take_byte;
-use console::play_line;
+use console::{Shown, play_line};
 use frame::Frame;
 use rule::basic::BySlack;
 use std::fs::File;
@@ -31,7 +31,7 @@ fn read_file(rt: &HostRuntime) -> io::Result<Vec<u8>> {
     Ok(bytes)
 }
 
-// The table in the file, if it can be read and holds one.
+// The table in the file, if it can be read and holds one. Unlike the walkthrough's, it gives no reason.
 fn read_table(rt: &HostRuntime) -> Option<Table> {
     let bytes = read_file(rt).ok()?;
     let mut table = Table::new();
@@ -39,46 +39,64 @@ fn read_table(rt: &HostRuntime) -> Option<Table> {
     Some(table)
 }
 
-// Waits for the next part of the input, whatever its length, and plays each line that ends in it. All that these lines
-// show is written before this returns. Answers whether there was any input.
-fn play_part(
-    rt: &HostRuntime,
-    output: &mut BufWriter<Stdout>,
-    frame: &mut StationFrame,
-    line: &mut LineBuffer,
-) -> io::Result<bool> {
-    let mut chunk = [0; CHUNK];
-    let count = rt.stdin().read(&mut chunk)?;
-    for byte in &chunk[0..count] {
-        if let Some(shown) = take_byte(frame, line, *byte) {
-            writeln!(output, "{shown}")?;
-        }
-    }
-    output.flush()?;
-    Ok(count > 0)
+// A session as it is played: the frame, the line so far, and what lines show.
+#[derive(Drop)]
+struct Session {
+    frame: StationFrame,
+    line: LineBuffer,
+    output: BufWriter<Stdout>,
 }
 
-// Plays the whole input, and at its end what is left without a newline.
-fn play_input(rt: &HostRuntime, frame: &mut StationFrame) -> io::Result<()> {
-    let mut output = BufWriter::new(rt.alloc(), rt.stdout())?;
-    let mut line = LineBuffer::new();
-    for _ in 0..u64::MAX {
-        if !play_part(rt, &mut output, frame, &mut line)? {
-            break;
+impl Session {
+    // A session on a table, of which no line has come yet.
+    fn open(rt: &HostRuntime, table: &Table) -> io::Result<Session> {
+        Ok(Session {
+            frame: Frame::open(table, VectorBoard::new(), BySlack),
+            line: LineBuffer::new(),
+            output: BufWriter::new(rt.alloc(), rt.stdout())?,
+        })
+    }
+
+    // Writes what a line shows, if it shows anything.
+    fn show(&mut self, shown: Option<Shown>) -> io::Result<()> {
+        match shown {
+            Some(shown) => writeln!(self.output, "{shown}"),
+            None => Ok(()),
         }
     }
-    if let Some(shown) = play_line(frame, line.line()) {
-        writeln!(output, "{shown}")?;
+
+    // Waits for the next part of the input, whatever its length, and plays each line that ends in it. All that these
+    // lines show is written before this returns. Answers whether there was any input.
+    fn play_part(&mut self, rt: &HostRuntime) -> io::Result<bool> {
+        let mut chunk = [0; CHUNK];
+        let count = rt.stdin().read(&mut chunk)?;
+        for byte in &chunk[..count] {
+            let shown = take_byte(&mut self.frame, &mut self.line, *byte);
+            self.show(shown)?;
+        }
+        self.output.flush()?;
+        Ok(count > 0)
     }
-    output.flush()
+
+    // Plays the whole input, and at its end what is left without a newline.
+    fn play_input(&mut self, rt: &HostRuntime) -> io::Result<()> {
+        // The kit's form of a loop that waits on input: no input has so many parts.
+        for _ in 0..u64::MAX {
+            if !self.play_part(rt)? {
+                break;
+            }
+        }
+        let shown = play_line(&mut self.frame, self.line.line());
+        self.show(shown)?;
+        self.output.flush()
+    }
 }
 
 fn run(rt: &HostRuntime) -> io::Result<()> {
     let Some(table) = read_table(rt) else {
         return println!(rt; "no table");
     };
-    let mut frame = Frame::open(&table, VectorBoard::new(), BySlack);
-    play_input(rt, &mut frame)
+    Session::open(rt, &table)?.play_input(rt)
 }
 
 fn main(rt: HostRuntime) -> io::Result<()> {

@@ -1,11 +1,12 @@
 // Loads the table in `table.isw`, starts its first task and brings it to its end, and says what was done.
 #![tactic(auto)]
 
-use anyhow::anyhow;
+use anyhow::{Context, anyhow};
 use board::Board;
 use std::fs;
 use std::process::ExitCode;
 use table::lawful::Table;
+use table::rows::Row;
 use vectors::vector_board::VectorBoard;
 
 mod tour;
@@ -16,14 +17,12 @@ const FILE: &str = "table.isw";
 
 // The table in the file, or one line that says why there is none.
 fn read_table(rt: &HostRuntime) -> anyhow::Result<Table> {
-    let Ok(bytes) = fs::read(rt, FILE) else {
-        return Err(anyhow!("no table: table.isw cannot be read"));
-    };
+    let bytes = fs::read(rt, FILE).context(format_args!("no table: {FILE} cannot be read"))?;
     let mut table = Table::new();
-    match table.load(bytes.as_slice()) {
-        Ok(_) => Ok(table),
-        Err(fault) => Err(anyhow!(format!(in rt.alloc(); "no table: {fault}")?)),
-    }
+    table
+        .load(bytes.as_slice())
+        .map_err(|fault| anyhow!("no table: {fault}"))?;
+    Ok(table)
 }
 
 // Says what the table holds.
@@ -48,9 +47,7 @@ fn run_one<B: Board>(rt: &HostRuntime, board: &mut B) -> anyhow::Result<()> {
         return Ok(());
     };
     if let Some(task) = board.next(core) {
-        let row = board.table().row(task);
-        let start = row.start;
-        let end = row.end;
+        let Row { start, end, .. } = board.table().row(task);
         println!(rt;
             "Core {core} is clear: its next task is task {task}, which the table runs from {start} to {end}."
         )?;
@@ -78,6 +75,7 @@ fn walk(rt: &HostRuntime) -> anyhow::Result<()> {
     run_one(rt, &mut board)
 }
 
+// An error is printed here, since one that `main` returns would be printed after the word `Error`.
 fn main(rt: HostRuntime) -> ExitCode {
     let Err(error) = walk(&rt) else {
         return ExitCode::SUCCESS;

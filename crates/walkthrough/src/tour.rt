@@ -7,10 +7,5 @@ use board::Board;
 pub fn first_clear<B: Board>(board: &B) -> Option<u32>
     ensures { result ≡ first_clear (B.plan board.now) (B.progress board.now) }
 {
-    for core in 0..u32::from(board.table().cores()) {
-        if board.clear(core) {
-            return Some(core);
-        }
-    }
-    None
+    (0..u32::from(board.table().cores())).find(|core| board.clear(*core))
 }

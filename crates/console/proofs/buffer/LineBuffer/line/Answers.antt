@@ -1,6 +1,5 @@
-use Rattle.std.proofs.Common.{rules}
 use Rattle.console.proofs.Cut.{loses_nothing}
 use Rattle.console.proofs.buffer.LineBuffer.line.Goals as goal
 
-pub returns : goal.returns
-returns c = record { is = search rules; enough = loses_nothing }
+pub returns-clause-enough : goal.returns-clause-enough
+returns-clause-enough c = loses_nothing
