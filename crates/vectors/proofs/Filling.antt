@@ -1,4 +1,4 @@
--- An array that a loop fills by a function of the place, and a set of cores that a loop fills by a test.
+-- A set of cores that a loop fills by a test.
 use Rattle.std.proofs.Common.{◌≡◌, ℕ, zero, suc, ◌+◌, ◌<◌, ◌≤◌, Bool, true, false, ◌&&◌, ◌||◌, eqb, ltb, List, map, get_or, sym, ap, ◌∙◌, refl, subst, ⊎_elim, arith}
 use Rattle.std.specs.List.{range_with_len}
 use Rattle.std.specs.Array.{IsFromFnResult, IsFromFnResultFrom}
@@ -11,19 +11,6 @@ use Rattle.table.specs.Sets.{has, set_of, none, with}
 use Rattle.table.specs.declared.rows.CoreSet.{CoreSet}
 use Rattle.table.proofs.Sets.{bits_below, has_none, set_at}
 use Rattle.table.proofs.Masks.{set_is}
-
--- an array that a closure fills, called at each place, is what h gives for the places: no call changes the closure
-pub from_fn_is : {F X : Type 0} {g : Mut F (ℕ × Unit {0}) X} {f : F} {n : ℕ} (h : ℕ → X) (xs : List X) → IsFromFnResult g f xs n → ((i : ℕ) (x : X) (q : F) → Called g f (i, tt) x q → (q ≡ f) × (x ≡ h i)) → xs ≡ map h (range_with_len 0 n)
-from_fn_is {F} {X} {g} {f} {n} h xs made called = fill_by_all h xs n (h 0) made.long (λ i l. at 0 n f refl made.each i (omega arith) (omega arith))
-  where
-    at : (a m : ℕ) (p : F) → p ≡ f → IsFromFnResultFrom g p xs a m → (i : ℕ) → a ≤ i → i < a + m → get_or xs i (h 0) ≡ h i
-    at a zero p e r i u v = absurd (omega arith)
-    at a (suc m) p e r i u v =
-        let one = called a r.1 r.0 (subst (λ s. Called g s (a, tt) r.1 r.0) e r.3) in
-        ⊎_elim
-        (λ d. subst (λ j. get_or xs j (h 0) ≡ h j) (sym d) (r.2.1 (h 0) ∙ one.1))
-        (λ d. at (a + 1) m r.0 one.0 r.4 i (omega arith) (omega arith))
-        (cases_eq i a)
 
 -- sets by tests that agree
 pub set_same : (f g : ℕ → Bool) → ((j : ℕ) → j < 8 → f j ≡ g j) → set_of f ≡ set_of g

@@ -1,5 +1,4 @@
 pub mod Filling
-pub mod Ranges
 pub mod Places
 pub mod Pair
 pub mod Entries

@@ -2,7 +2,7 @@ use Rattle.std.proofs.Common.{List, ap, rules}
 use Rattle.table.specs.View.{plan_of}
 use Rattle.vectors.specs.Links.{task_links}
 use Rattle.vectors.specs.declared.state.TaskLinks.{TaskLinks}
-use Rattle.vectors.proofs.Filling.{from_fn_is}
+use Rattle.table.proofs.FromFn.{from_fn_is}
 use Rattle.vectors.proofs.opening.links.Goals as goal
 
 pub returns : goal.returns

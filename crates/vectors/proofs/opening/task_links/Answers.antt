@@ -2,7 +2,7 @@ use Rattle.std.proofs.Common.{◌≡◌, ℕ, List, Option, rules}
 use Rattle.table.specs.View.{plan_of}
 use Rattle.vectors.specs.Links.{completer}
 use Rattle.vectors.specs.declared.state.TaskLinks.{TaskLinks}
-use Rattle.vectors.proofs.Filling.{from_fn_is}
+use Rattle.table.proofs.FromFn.{from_fn_is}
 use Rattle.vectors.proofs.opening.task_links.Goals as goal
 
 -- links are what their parts are

@@ -1,11 +1,10 @@
-use Rattle.std.proofs.Common.{◌≡◌, sym, ap, ◌∙◌, refl, arith, rules, tests}
-use Rattle.std.proofs.lemmas.Iterator.{YieldsList-from_range}
+use Rattle.std.proofs.Common.{◌≡◌, sym, ap, ◌∙◌, rules, tests}
 use Rattle.std.proofs.lemmas.Iterator.Adapters.{option_map_id}
 use Rattle.std.proofs.lemmas.Iterator.Search.{find_from_yields_List}
 use Rattle.table.specs.Below.{first_from}
 use Rattle.table.specs.Rows.{Plan}
 use Rattle.board.specs.Meaning.{clear}
-use Rattle.table.proofs.Below.{first_of_range}
+use Rattle.table.proofs.Ranges.{numbers_below, first_of_range}
 use Rattle.walkthrough.proofs.tour.first_clear.Goals as goal
 
 pub returns : goal.returns
@@ -15,6 +14,6 @@ returns g c =
     let n = c.from.result in
     let cores : n ≡ p.cores = c.from.ensures ∙ (c.cores.ensures.is ∙ ap (λ (q : Plan). q.cores) c.table.ensures) in
     sym (option_map_id c.find.result)
-    ∙ find_from_yields_List f _ _ c.find.result c.find.ensures.ran (YieldsList-from_range 0 n n refl (omega arith)) (λ x b q k. search (rules, tests))
+    ∙ find_from_yields_List f _ _ c.find.result c.find.ensures.ran (numbers_below n) (λ x b q k. search (rules, tests))
     ∙ first_of_range f 0 n
     ∙ ap (first_from f 0) cores

@@ -2,7 +2,7 @@ use Rattle.std.proofs.Common.{rules}
 use borrow.Author.Tests.{tests}
 use Rattle.table.specs.View.{plan_of}
 use Rattle.board.specs.Standing.{row_at_start}
-use Rattle.board.proofs.Ranges.{from_fn_is}
+use Rattle.table.proofs.FromFn.{from_fn_is}
 use Rattle.board.proofs.cores.Cores.at_start.Goals as goal
 
 pub returns : goal.returns

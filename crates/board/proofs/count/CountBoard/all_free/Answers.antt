@@ -1,7 +1,7 @@
 use Rattle.std.proofs.Common.{ap, rules, ◌∙◌}
 use borrow.Author.Tests.{tests}
 use Rattle.std.proofs.lemmas.Iterator.Search.{all_from_yields_List}
-use Rattle.board.proofs.Ranges.{numbers_below, all_of_range}
+use Rattle.table.proofs.Ranges.{numbers_below, all_of_range}
 use Rattle.table.specs.Below.{all_below}
 use Rattle.board.specs.Meaning.{free_of}
 use Rattle.board.specs.Standing.{plan_at, progress_at}

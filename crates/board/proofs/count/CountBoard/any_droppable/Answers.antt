@@ -1,7 +1,7 @@
 use Rattle.std.proofs.Common.{ap, rules, ◌∙◌}
 use borrow.Author.Tests.{tests}
 use Rattle.std.proofs.lemmas.Iterator.Search.{any_from_yields_List}
-use Rattle.board.proofs.Ranges.{numbers_below, any_of_range}
+use Rattle.table.proofs.Ranges.{numbers_below, any_of_range}
 use Rattle.table.specs.Below.{any_below}
 use Rattle.board.specs.Meaning.{droppable}
 use Rattle.board.specs.Standing.{plan_at, progress_at}

@@ -2,8 +2,7 @@ use Rattle.std.proofs.Common.{rules, ◌∙◌}
 use borrow.Author.Tests.{tests}
 use Rattle.std.proofs.lemmas.Iterator.Search.{all_from_yields_List}
 use Rattle.table.specs.Reading.{passes_by}
-use Rattle.table.proofs.Below.{all_of_range}
-use Rattle.table.proofs.Ranges.{numbers_below}
+use Rattle.table.proofs.Ranges.{all_of_range, numbers_below}
 use Rattle.table.proofs.layout.Header.inputs_pass.Goals as goal
 
 pub returns : goal.returns

@@ -5,7 +5,7 @@ use Rattle.std.proofs.lemmas.Iterator.Adapters.{option_map_id}
 use Rattle.table.specs.Below.{first_from}
 use Rattle.table.specs.View.{plan_of}
 use Rattle.vectors.specs.Links.{aims}
-use Rattle.vectors.proofs.Ranges.{numbers_below, first_of_range}
+use Rattle.table.proofs.Ranges.{numbers_below, first_of_range}
 use Rattle.vectors.proofs.opening.Opening.first_target.Goals as goal
 
 pub find-requires-clause-callable : goal.find-requires-clause-callable

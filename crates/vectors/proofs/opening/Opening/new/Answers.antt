@@ -2,7 +2,7 @@ use Rattle.std.proofs.Common.{rules}
 use Rattle.table.specs.Sets.{set_of}
 use Rattle.table.specs.View.{plan_of}
 use Rattle.vectors.specs.Links.{begins}
-use Rattle.vectors.proofs.Filling.{from_fn_is}
+use Rattle.table.proofs.FromFn.{from_fn_is}
 use Rattle.vectors.proofs.opening.Opening.new.Goals as goal
 
 pub invariant_of-result : goal.invariant_of-result

@@ -1,7 +1,7 @@
 use Rattle.std.proofs.Common.{rules}
 use Rattle.table.specs.View.{plan_of}
 use Rattle.vectors.specs.Links.{first_target}
-use Rattle.vectors.proofs.Filling.{from_fn_is}
+use Rattle.table.proofs.FromFn.{from_fn_is}
 use Rattle.vectors.proofs.opening.Opening.targets_of.Goals as goal
 
 pub returns : goal.returns

@@ -3,7 +3,7 @@ use Rattle.table.specs.Sets.{none}
 use Rattle.table.specs.View.{plan_of}
 use Rattle.vectors.specs.Phases.{task_vectors}
 use Rattle.vectors.specs.declared.state.TaskVectors.{TaskVectors}
-use Rattle.vectors.proofs.Filling.{from_fn_is}
+use Rattle.table.proofs.FromFn.{from_fn_is}
 use Rattle.vectors.proofs.opening.Opening.vectors.Goals as goal
 
 pub returns : goal.returns
