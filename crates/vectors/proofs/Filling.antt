@@ -1,4 +1,4 @@
--- An array that a loop fills by a function of the place, and a set of cores that a loop fills by a test.
+-- An array that a closure fills place by place, and a set of cores that a loop fills by a test.
 use Rattle.std.proofs.Common.{◌≡◌, ℕ, zero, suc, ◌+◌, ◌<◌, ◌≤◌, Bool, true, false, ◌&&◌, ◌||◌, eqb, ltb, List, map, get_or, sym, ap, ◌∙◌, refl, subst, ⊎_elim, arith}
 use Rattle.std.specs.List.{range_with_len}
 use Rattle.std.specs.Array.{IsFromFnResult, IsFromFnResultFrom}
