@@ -48,16 +48,16 @@ first_vectors p = record { tasks = map (task_vectors p) (range_with_len 0 384); 
 
 -- the vectors with another ready vector of task t, another notification vector, another target on core c, another status vector of core k
 abbrev pub set_ready : Vectors → ℕ → CoreSet → Vectors
-set_ready v t s = record { tasks = slice_set v.tasks t (record { ready = s; notify = notify_of v t; target = (vectors_at v t).target }); status = v.status }
+set_ready v t s = record v { tasks = slice_set v.tasks t (record (vectors_at v t) { ready = s }) }
 
 abbrev pub set_notify : Vectors → ℕ → CoreSet → Vectors
-set_notify v t s = record { tasks = slice_set v.tasks t (record { ready = ready_of v t; notify = s; target = (vectors_at v t).target }); status = v.status }
+set_notify v t s = record v { tasks = slice_set v.tasks t (record (vectors_at v t) { notify = s }) }
 
 abbrev pub set_target : Vectors → ℕ → ℕ → ℕ → Vectors
-set_target v t c u = record { tasks = slice_set v.tasks t (record { ready = ready_of v t; notify = notify_of v t; target = slice_set (vectors_at v t).target c (Some u) }); status = v.status }
+set_target v t c u = record v { tasks = slice_set v.tasks t (record (vectors_at v t) { target = slice_set (vectors_at v t).target c (Some u) }) }
 
 abbrev pub set_status : Vectors → ℕ → CoreSet → Vectors
-set_status v k s = record { tasks = v.tasks; status = slice_set v.status k s }
+set_status v k s = record v { status = slice_set v.status k s }
 
 -- READY PHASE. Core k has every notice that task t needs.
 abbrev pub noticed : Vectors → ℕ → ℕ → Bool

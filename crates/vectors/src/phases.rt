@@ -128,7 +128,7 @@ impl Vectors {
         self.set_status(core, left);
     }
 
-    // The task needs no notice from the core any more.
+    // The task, if there is one, needs no notice from the core any more: like the definition, it takes the answer of a look-up as it is.
     fn unready(&mut self, task: Option<u16>, core: u32)
         ensures { self.new ≡ unready self.old task core }
     {
@@ -151,7 +151,7 @@ impl Vectors {
         }
     }
 
-    // The task has ended on the core: all cores in its notification vector are told.
+    // The task has ended on the core: all cores in its notification vector are told, in the order of the definition.
     pub(crate) fn end(&mut self, core: u32, task: u16)
         ensures { self.new ≡ end_vectors 8 self.old core task }
     {
@@ -163,7 +163,7 @@ impl Vectors {
         }
     }
 
-    // The end of the task is of no use to the core any more.
+    // The end of the task, if there is one, is of no use to the core any more.
     fn withdraw(&mut self, task: Option<u16>, core: u32)
         ensures { self.new ≡ withdraw self.old task core }
     {
@@ -173,7 +173,7 @@ impl Vectors {
         }
     }
 
-    // The end of the task is for this task of the core now.
+    // The end of the task, if there is one, is for this task of the core now.
     fn retarget(&mut self, task: Option<u16>, core: u32, to: u16)
         ensures { self.new ≡ retarget self.old task core to }
     {

@@ -7,6 +7,7 @@ pub(crate) fn entry<T: Copy>(items: &[T], at: usize, default: T) -> T
     items.get(at).copied().unwrap_or(default)
 }
 
+// Written by its index: a proof knows nothing of the elements after a write through `get_mut`.
 pub(crate) fn put<T: Copy>(items: &mut [T], at: usize, to: T)
     ensures { items.new ≡ slice_set items.old at to }
 {
