@@ -119,7 +119,7 @@ refused s r = outcome (Refused r) s
 
 -- the frame with other progress, at this time
 abbrev pub at_time : State → ℕ → List Core → State
-at_time s time cs = record { plan = s.plan; progress = cs; latest = time; records = s.records }
+at_time s time cs = record s { progress = cs; latest = time }
 
 -- an answer at this time, with the progress after it
 abbrev pub answered : State → ℕ → List Core → Answer → Outcome
@@ -127,8 +127,7 @@ answered s time cs a = outcome (Told a) (at_time s time cs)
 
 -- core k starts task t
 abbrev pub starting : State → ℕ → ℕ → ℕ → Manner → State
-starting s k t time m = record {
-  plan = s.plan;
+starting s k t time m = record s {
   progress = stepped s.progress k Running;
   latest = time;
   records = slice_set s.records t (started_at time m);
@@ -140,7 +139,7 @@ go_on s k t time = cond (is_loose (step_of s.progress k)) (outcome (Told (Loose 
 
 -- the frame with core k's next task let loose
 abbrev pub let_go : State → ℕ → State
-let_go s k = record { plan = s.plan; progress = stepped s.progress k LooseStep; latest = s.latest; records = s.records }
+let_go s k = record s { progress = stepped s.progress k LooseStep }
 
 -- core k is not clear: its next task is eased if the rule grants it, and then starts if it is clear
 abbrev pub ease_or_hold : Says → State → ℕ → ℕ → Outcome
@@ -165,8 +164,7 @@ runs_on s k t = is_running (step_of s.progress k) && next_of s k == t
 
 -- core k ends task t
 abbrev pub ending : State → ℕ → ℕ → ℕ → State
-ending s k t time = record {
-  plan = s.plan;
+ending s k t time = record s {
   progress = ended_one s.plan s.progress k;
   latest = time;
   records = slice_set s.records t (ended_at time (slice_index_or s.records t fresh));

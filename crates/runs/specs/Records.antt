@@ -21,7 +21,7 @@ abbrev pub fresh : Record
 fresh = record { manner = NotStarted; start = 0; ended = false; end = 0 }
 
 abbrev pub started_at : ℕ → Manner → Record
-started_at time m = record { manner = m; start = time; ended = false; end = 0 }
+started_at time m = record fresh { manner = m; start = time }
 
 abbrev pub ended_at : ℕ → Record → Record
-ended_at time r = record { manner = r.manner; start = r.start; ended = true; end = time }
+ended_at time r = record r { ended = true; end = time }
