@@ -1,39 +1,60 @@
--- One core more in the sums over the cores.
-use Rattle.std.proofs.Common.{◌≡◌, ℕ, suc, ◌+◌, Bool, true, false, cond, Some, None, Option, sym, ap, ◌∙◌, ⊎_elim, arith}
-use Rattle.std.proofs.lemmas.Bool.{cases_Bool, cond-true, cond-false}
+-- The sums over the cores as those of lists.
+use Rattle.std.proofs.Common.{◌≡◌, ℕ, zero, suc, ◌+◌, min, Bool, true, false, cond, List, [], ◌∷◌, ◌++◌, length, filter, append-nil, Some, None, Option, refl, sym, ap, ◌∙◌, add-one, arith}
+use Rattle.std.specs.List.{range_with_len, sum_by, filter_map, cons_option, reduce}
+use Rattle.std.proofs.lemmas.List.{map-id, length-append}
+use Rattle.std.proofs.lemmas.List.Elements.{filter-append, filter_map-append}
+use Rattle.std.proofs.lemmas.List.FromFn.{map-range_with_len_more}
+use Rattle.std.proofs.lemmas.List.Sums.{sum_by-append, fold-append}
 use Rattle.runs.specs.Sums.{lower, lowest, total}
 
--- a number is not none, and two that are the same option are the same
-some_none : (x : ℕ) → Some x ≡ None → ⊥
-some_none x e = let z : ◌≡◌ {A = ℕ} 0 1 = cc in omega arith
+-- the numbers below n + 1 end in n
+numbers_more : (n : ℕ) → range_with_len 0 (suc n) ≡ range_with_len 0 n ++ (n ∷ [])
+numbers_more n =
+    let e = map-range_with_len_more (λ (x : ℕ). x) 0 n n (omega arith) in
+    rw (map-id, map-id, add-one) at e
 
-some_same : (x y : ℕ) → Some x ≡ Some y → x ≡ y
-some_same x y e = cc
+-- the smallest number with one more
+reduce_more : (xs : List ℕ) (y : ℕ) → reduce min (xs ++ (y ∷ [])) ≡ lower (reduce min xs) y
+reduce_more [] y = refl
+reduce_more (x ∷ xs) y = ap (λ m. Some m) (fold-append min x xs (y ∷ []))
 
-module _ (n : ℕ) (f : ℕ → Bool) (g : ℕ → ℕ) where
-  after : n + 1 ≡ suc n
-  after = omega arith
+sum_or_not : (b : Bool) (g : ℕ → ℕ) (n s : ℕ) → s + sum_by g (cond b (n ∷ []) []) ≡ cond b (g n + s) s
+sum_or_not true g n s = omega arith
+sum_or_not false g n s = omega arith
 
-  one_more : total (n + 1) f g ≡ cond (f n) (g n + total n f g) (total n f g)
-  one_more = ap (λ m. total m f g) after
+count_or_not : (b : Bool) (n s : ℕ) → s + length {A = ℕ} (cond b (n ∷ []) []) ≡ cond b (1 + s) s
+count_or_not true n s = omega arith
+count_or_not false n s = omega arith
 
-  -- a core that counts, and one that does not
-  pub total_yes : (s : ℕ) → f n ≡ true → s ≡ total n f g → s + g n ≡ total (n + 1) f g
-  total_yes s h e = omega (arith, one_more, cond-true (f n) (g n + total n f g) (total n f g) h)
+least_or_not : (b : Bool) (x : ℕ) (xs : List ℕ) → reduce min (xs ++ cons_option (cond b (Some x) None) []) ≡ cond b (lower (reduce min xs) x) (reduce min xs)
+least_or_not true x xs = reduce_more xs x
+least_or_not false x xs = ap (reduce min) (append-nil xs)
 
-  pub total_no : (s : ℕ) → f n ≡ false → s ≡ total n f g → s ≡ total (n + 1) f g
-  total_no s h e = omega (arith, one_more, cond-false (f n) (g n + total n f g) (total n f g) h)
+module _ (f : ℕ → Bool) where
+  pub total_as_count : (n : ℕ) → total n f (λ k. 1) ≡ length (filter f (range_with_len 0 n))
+  total_as_count zero = refl
+  total_as_count (suc n) =
+      let xs = range_with_len 0 n in
+      ap (λ s. cond (f n) (1 + s) s) (total_as_count n)
+      ∙ (sym (count_or_not (f n) n (length (filter f xs)))
+      ∙ (sym (length-append (filter f xs) (filter f (n ∷ [])))
+      ∙ (ap length (sym (filter-append f xs (n ∷ []))) ∙ ap (λ ys. length (filter f ys)) (sym (numbers_more n)))))
 
-  -- the smallest value with one core more
-  pub lowest_more : (o r : Option ℕ) → o ≡ lowest n f g → r ≡ cond (f n) (lower o (g n)) o → r ≡ lowest (n + 1) f g
-  lowest_more o r e d = d ∙ (ap (λ i. cond (f n) (lower i (g n)) i) e ∙ sym (ap (λ m. lowest m f g) after))
+  module _ (g : ℕ → ℕ) where
+    pub total_as_sum : (n : ℕ) → total n f g ≡ sum_by g (filter f (range_with_len 0 n))
+    total_as_sum zero = refl
+    total_as_sum (suc n) =
+        let xs = range_with_len 0 n in
+        ap (λ s. cond (f n) (g n + s) s) (total_as_sum n)
+        ∙ (sym (sum_or_not (f n) g n (sum_by g (filter f xs)))
+        ∙ (sym (sum_by-append g (filter f xs) (filter f (n ∷ [])))
+        ∙ (ap (sum_by g) (sym (filter-append f xs (n ∷ []))) ∙ ap (λ ys. sum_by g (filter f ys)) (sym (numbers_more n)))))
 
--- what an option tells that holds a number where a test holds
-pub some_yes : (b : Bool) (x y : ℕ) → Some x ≡ cond b (Some y) None → (b ≡ true) × (x ≡ y)
-some_yes b x y e = ⊎_elim
-    (λ h. (h, some_same x y (e ∙ cond-true b (Some y) None h)))
-    (λ h. absurd (some_none x (e ∙ cond-false b (Some y) None h)))
-    (cases_Bool b)
-
-pub none_no : (b : Bool) (y : ℕ) → None ≡ cond b (Some y) None → b ≡ false
-none_no b y e = ⊎_elim (λ h. absurd (some_none y (sym (e ∙ cond-true b (Some y) None h)))) (λ h. h) (cases_Bool b)
+    pub lowest_as_least : (n : ℕ) → lowest n f g ≡ reduce min (filter_map (λ k. cond (f k) (Some (g k)) None) (range_with_len 0 n))
+    lowest_as_least zero = refl
+    lowest_as_least (suc n) =
+        let h : ℕ → Option ℕ = λ k. cond (f k) (Some (g k)) None in
+        let xs = range_with_len 0 n in
+        ap (λ o. cond (f n) (lower o (g n)) o) (lowest_as_least n)
+        ∙ (sym (least_or_not (f n) (g n) (filter_map h xs))
+        ∙ (ap (reduce min) (sym (filter_map-append h xs (n ∷ []))) ∙ ap (λ ys. reduce min (filter_map h ys)) (sym (numbers_more n))))

@@ -1,76 +1,63 @@
-ghost use Rattle.std.specs.Prelude.{◌≡◌, ◌<◌, ◌≤◌, true, is_err, if◌then◌else◌};
+ghost use Rattle.std.specs.Prelude.{◌≡◌, ◌<◌, true, is_err, if◌then◌else◌};
 ghost use Rattle.board.specs.Meaning.{clear, easable};
+ghost use Rattle.calls.specs.Words.{told};
 ghost use Rattle.calls.specs.declared.Reply.TheVariants.{Told};
 ghost use Rattle.runs.specs.Calls.{next_of, timely, question, says_to, moved_by, rule_after, outcome, answered, starting, go_on, ease_or_hold, ask};
-ghost use Rattle.calls.specs.Words.{told};
 ghost use Rattle.frame.specs.View.{state_on};
 
 use crate::Frame;
+use crate::candidate::Candidate;
 use board::Board;
 use calls::{Answer, Refusal};
 use rule::Rule;
-use rule::question::Question;
 use runs::{Manner, Record};
 
 impl<B: Board, R: Rule> Frame<B, R> {
     // Asks the rule whether the core's next task may be let loose.
-    fn grants(&mut self, core: u32, time: u32) -> bool
-        requires { time ≤ 268435455 }
-        ensures answer { result ≡ says_to (R.Rule.says self.old.rule) (question (state_on B.Board self.old) core time) }
-        ensures rule { self.new.rule ≡ moved_by R.Rule.after self.old.rule (question (state_on B.Board self.old) core time) }
-        ensures board { self.new.board ≡ self.old.board }
-        ensures latest { self.new.latest ≡ self.old.latest }
-        ensures records { self.new.records ≡ self.old.records }
+    fn grants(&mut self, candidate: Candidate) -> bool
+        ensures answer { result ≡ says_to (R.Rule.says self.old.rule) (question (state_on B.Board self.old) candidate.core candidate.time) }
+        ensures rule { self.new ≡ record self.old { rule = moved_by R.Rule.after self.old.rule (question (state_on B.Board self.old) candidate.core candidate.time) } }
     {
-        let (slack, reserve, loose) = self.totals(time);
-        let Some(slack) = slack else {
+        let Some(question) = self.question(candidate) else {
             return false;
         };
-        let claim = self.next_row(core).claim;
-        self.rule.allows(Question {
-            slack,
-            reserve,
-            claim,
-            loose,
-        })
+        self.rule.allows(question)
     }
 
-    // Starts the task on the core, which is clear, and notes it.
-    fn begin(&mut self, core: u32, task: u16, time: u32, manner: Manner)
-        requires clear { clear (B.Board.plan self.old.board) (B.Board.progress self.old.board) core ≡ true }
-        requires within { task < 384 }
-        ensures frame { state_on B.Board self.new ≡ starting (state_on B.Board self.old) core task time manner }
+    // Starts the task on its core, which is clear, and notes it.
+    #[tactic(auto, using(board::specs::Keeping::take_set_in))]
+    fn begin(&mut self, candidate: Candidate, manner: Manner)
+        requires { let s = state_on B.Board self.old in clear s.plan s.progress candidate.core ≡ true }
+        ensures frame { state_on B.Board self.new ≡ starting (state_on B.Board self.old) candidate.core candidate.task candidate.time manner }
         ensures rule { self.new.rule ≡ self.old.rule }
     {
-        self.board.start(core);
-        self.latest = time;
-        self.records[usize::from(task)] = Record {
+        self.board.start(candidate.core);
+        self.latest = candidate.time;
+        self.records[usize::from(candidate.task)] = Record {
             manner,
-            start: time,
-            ended: false,
-            end: 0,
+            start: candidate.time,
+            ..Record::FRESH
         };
     }
 
     // The same, in turn or loose as the core's step says.
-    fn go(&mut self, core: u32, task: u16, time: u32) -> Answer
-        requires clear { clear (B.Board.plan self.old.board) (B.Board.progress self.old.board) core ≡ true }
-        requires within { task < 384 }
-        ensures outcome { outcome (Told result) (state_on B.Board self.new) ≡ go_on (state_on B.Board self.old) core task time }
+    fn go(&mut self, candidate: Candidate) -> Answer
+        requires { let s = state_on B.Board self.old in clear s.plan s.progress candidate.core ≡ true }
+        ensures outcome { outcome (Told result) (state_on B.Board self.new) ≡ go_on (state_on B.Board self.old) candidate.core candidate.task candidate.time }
         ensures rule { self.new.rule ≡ self.old.rule }
     {
-        if self.board.core(core).step.is_loose() {
-            self.begin(core, task, time, Manner::Loose);
-            Answer::Loose(task)
+        if self.board.core(candidate.core).step.is_loose() {
+            self.begin(candidate, Manner::Loose);
+            Answer::Loose(candidate.task)
         } else {
-            self.begin(core, task, time, Manner::InTurn);
-            Answer::Go(task)
+            self.begin(candidate, Manner::InTurn);
+            Answer::Go(candidate.task)
         }
     }
 
     // Makes the time the latest and gives the answer, with which no task starts.
     fn note(&mut self, time: u32, answer: Answer) -> Answer
-        ensures outcome { outcome (Told result) (state_on B.Board self.new) ≡ answered (state_on B.Board self.old) time (B.Board.progress self.old.board) answer }
+        ensures outcome { let s = state_on B.Board self.old in outcome (Told result) (state_on B.Board self.new) ≡ answered s time s.progress answer }
         ensures rule { self.new.rule ≡ self.old.rule }
     {
         self.latest = time;
@@ -78,17 +65,16 @@ impl<B: Board, R: Rule> Frame<B, R> {
     }
 
     // What an ask comes to where the core's next task is not clear.
-    fn ease_or_hold(&mut self, core: u32, task: u16, time: u32) -> Answer
-        requires known { task ≡ next_of (state_on B.Board self.old) core }
-        requires within { task < 384 }
-        requires soon { time ≤ 268435455 }
-        ensures outcome { outcome (Told result) (state_on B.Board self.new) ≡ ease_or_hold (R.Rule.says self.old.rule) (state_on B.Board self.old) core time }
-        ensures rule { self.new.rule ≡ (if easable (B.Board.plan self.old.board) (B.Board.progress self.old.board) core then moved_by R.Rule.after self.old.rule (question (state_on B.Board self.old) core time) else self.old.rule) }
+    fn ease_or_hold(&mut self, candidate: Candidate) -> Answer
+        requires { candidate.task ≡ next_of (state_on B.Board self.old) candidate.core }
+        ensures outcome { outcome (Told result) (state_on B.Board self.new) ≡ ease_or_hold (R.Rule.says self.old.rule) (state_on B.Board self.old) candidate.core candidate.time }
+        ensures rule { let s = state_on B.Board self.old in self.new.rule ≡ (if easable s.plan s.progress candidate.core then moved_by R.Rule.after self.old.rule (question s candidate.core candidate.time) else self.old.rule) }
     {
-        if self.board.easable(core) && self.grants(core, time) {
+        let Candidate { core, task, time } = candidate;
+        if self.board.easable(core) && self.grants(candidate) {
             self.board.ease(core);
             if self.board.clear(core) {
-                return self.go(core, task, time);
+                return self.go(candidate);
             }
             return self.note(time, Answer::Data(task));
         }
@@ -101,7 +87,7 @@ impl<B: Board, R: Rule> Frame<B, R> {
 
     // What an ask comes to where the core and the time are taken.
     fn answer(&mut self, core: u32, time: u32) -> Result<Answer, Refusal>
-        requires core { core < (B.Board.plan self.old.board).cores }
+        requires core { core < (state_on B.Board self.old).plan.cores }
         requires timely { timely (state_on B.Board self.old) time ≡ true }
         ensures kept { is_err result ≡ true → self.new ≡ self.old }
         ensures outcome { outcome (told result) (state_on B.Board self.new) ≡ ask (R.Rule.says self.old.rule) (state_on B.Board self.old) core time }
@@ -113,10 +99,11 @@ impl<B: Board, R: Rule> Frame<B, R> {
         let Some(task) = self.next_task(core) else {
             return Ok(self.note(time, Answer::Over));
         };
+        let candidate = Candidate { core, task, time };
         if self.board.clear(core) {
-            Ok(self.go(core, task, time))
+            Ok(self.go(candidate))
         } else {
-            Ok(self.ease_or_hold(core, task, time))
+            Ok(self.ease_or_hold(candidate))
         }
     }
 
@@ -126,9 +113,8 @@ impl<B: Board, R: Rule> Frame<B, R> {
         ensures outcome { outcome (told result) (state_on B.Board self.new) ≡ ask (R.Rule.says self.old.rule) (state_on B.Board self.old) core time }
         ensures rule { self.new.rule ≡ rule_after R.Rule.after self.old.rule (state_on B.Board self.old) core time }
     {
-        match self.refusal(core, time) {
-            Some(refusal) => Err(refusal),
-            None => self.answer(core, time),
-        }
+        self.check_core(core)?;
+        self.check_time(time)?;
+        self.answer(core, time)
     }
 }

@@ -1,8 +1,8 @@
-ghost use Rattle.std.specs.Prelude.{◌≡◌, ◌<◌, ◌≤◌, true, length, is_err};
+ghost use Rattle.std.specs.Prelude.{◌≡◌, ◌<◌, true, length, is_err};
 ghost use Rattle.board.specs.Steps.{is_running};
 ghost use Rattle.board.specs.Meaning.{step_of};
-ghost use Rattle.runs.specs.Calls.{runs_on, outcome, ending, finish};
 ghost use Rattle.calls.specs.Words.{noted};
+ghost use Rattle.runs.specs.Calls.{runs_on, outcome, ending, finish};
 ghost use Rattle.frame.specs.View.{state_on};
 
 use crate::Frame;
@@ -15,33 +15,27 @@ impl<B: Board, R: Rule> Frame<B, R> {
     // Does the core run this task?
     fn runs(&self, core: u32, task: u32) -> bool
         ensures is { result ≡ runs_on (state_on B.Board self.now) core task }
-        ensures within { result ≡ true → task < length (B.Board.plan self.now.board).rows }
-        ensures few { result ≡ true → length (B.Board.plan self.now.board).rows ≤ 384 }
+        ensures within { result ≡ true → task < length (state_on B.Board self.now).plan.rows }
     {
-        match self.next_task(core) {
-            Some(next) => self.board.core(core).step.is_running() && u32::from(next) == task,
-            None => false,
-        }
+        self.board.core(core).step.is_running()
+            && self
+                .next_task(core)
+                .is_some_and(|next| u32::from(next) == task)
     }
 
     // Ends the task that the core runs, and notes it.
+    #[tactic(auto, using(board::specs::Keeping::take_set_in, std::proofs::lemmas::Grind::common_steps))]
     fn close(&mut self, core: u32, task: u32, time: u32)
-        requires running { is_running (step_of (B.Board.progress self.old.board) core) ≡ true }
-        requires within { task < length (B.Board.plan self.old.board).rows }
-        requires few { length (B.Board.plan self.old.board).rows ≤ 384 }
+        requires running { is_running (step_of (state_on B.Board self.old).progress core) ≡ true }
+        requires within { task < length (state_on B.Board self.old).plan.rows }
         ensures frame { state_on B.Board self.new ≡ ending (state_on B.Board self.old) core task time }
         ensures rule { self.new.rule ≡ self.old.rule }
     {
         self.board.end(core);
         self.latest = time;
-        let index = task as usize;
-        let old = self.records[index];
-        self.records[index] = Record {
-            manner: old.manner,
-            start: old.start,
-            ended: true,
-            end: time,
-        };
+        let record = &mut self.records[task as usize];
+        record.ended = true;
+        record.end = time;
     }
 
     // The core has finished the task.
@@ -50,9 +44,8 @@ impl<B: Board, R: Rule> Frame<B, R> {
         ensures outcome { outcome (noted result) (state_on B.Board self.new) ≡ finish (state_on B.Board self.old) core task time }
         ensures rule { self.new.rule ≡ self.old.rule }
     {
-        if let Some(refusal) = self.refusal(core, time) {
-            return Err(refusal);
-        }
+        self.check_core(core)?;
+        self.check_time(time)?;
         if !self.runs(core, task) {
             return Err(Refusal::NotRunning);
         }

@@ -1,12 +1,11 @@
 // The frame: it steers one frame of a table's tasks over any board and any rule.
 #![tactic(auto)]
 
-ghost use Rattle.std.specs.Prelude.{◌≡◌, ◌<◌, ◌≤◌, cond, not, length, replicate, if◌then◌else◌, Some, None, nat_lt};
+ghost use Rattle.std.specs.Prelude.{◌≡◌, ◌<◌, ◌≤◌, length, if◌then◌else◌, Some, None, Ok, Err, nat_lt};
 ghost use Rattle.table.specs.View.{plan_of};
 ghost use Rattle.board.specs.Steps.{is_over};
 ghost use Rattle.board.specs.Meaning.{step_of};
 ghost use Rattle.calls.specs.declared.Refusal.TheVariants.{NoSuchCore, BadTime};
-ghost use Rattle.runs.specs.Records.{fresh};
 ghost use Rattle.runs.specs.Calls.{opening, next_of, next_row, timely};
 ghost use Rattle.frame.specs.View.{state_on, Within};
 
@@ -18,6 +17,7 @@ use table::lawful::Table;
 use table::rows::Row;
 
 pub mod asking;
+mod candidate;
 pub mod finishing;
 pub mod playing;
 pub mod reporting;
@@ -37,13 +37,6 @@ pub struct Frame<B: Board, R: Rule> {
     records: [Record; 384],
 }
 
-// A record for each task that a table can have.
-fn fresh_records() -> [Record; 384]
-    ensures { result ≡ replicate 384 fresh }
-{
-    [Record::FRESH; 384]
-}
-
 impl<B: Board, R: Rule> Frame<B, R> {
     // Opens the board on the table, and with it a frame in which no task has started.
     pub fn open(table: &Table, mut board: B, rule: R) -> Frame<B, R>
@@ -55,7 +48,7 @@ impl<B: Board, R: Rule> Frame<B, R> {
             board,
             rule,
             latest: 0,
-            records: fresh_records(),
+            records: [Record::FRESH; 384],
         }
     }
 
@@ -68,17 +61,17 @@ impl<B: Board, R: Rule> Frame<B, R> {
 
     // The number of cores of the table.
     fn cores(&self) -> u32
-        ensures is { result ≡ (B.Board.plan self.now.board).cores }
+        ensures is { result ≡ (state_on B.Board self.now).plan.cores }
         ensures few { result ≤ 8 }
     {
         u32::from(self.board.table().cores())
     }
 
     // The core's next task; none when it is over.
+    #[tactic(auto, using(crate::proofs::Parts::left_named, crate::proofs::Parts::within_rows))]
     fn next_task(&self, core: u32) -> Option<u16>
-        ensures is { result ≡ (if is_over (step_of (B.Board.progress self.now.board) core) then None else Some (next_of (state_on B.Board self.now) core)) }
-        ensures within { Within (length (B.Board.plan self.now.board).rows) result }
-        ensures few { length (B.Board.plan self.now.board).rows ≤ 384 }
+        ensures is { let s = state_on B.Board self.now in result ≡ (if is_over (step_of s.progress core) then None else Some (next_of s core)) }
+        ensures within { Within (length (state_on B.Board self.now).plan.rows) result }
     {
         if self.board.core(core).step.is_over() {
             None
@@ -93,30 +86,37 @@ impl<B: Board, R: Rule> Frame<B, R> {
         ensures soon { result.start < 268435456 }
         ensures small { result.claim < 2097152 }
     {
-        match self.board.next(core) {
-            Some(task) => self.board.table().row(task),
-            None => Row::BLANK,
+        self.board
+            .next(core)
+            .map_or(Row::BLANK, |task| self.board.table().row(task))
+    }
+
+    // The records of the table's tasks.
+    fn table_records(&self) -> &[Record]
+        ensures { result.now ≡ (state_on B.Board self.now).records }
+    {
+        &self.records[..usize::from(self.board.table().tasks())]
+    }
+
+    // Refuses a core that the table lacks.
+    fn check_core(&self, core: u32) -> Result<(), Refusal>
+        ensures { result ≡ (if nat_lt core (state_on B.Board self.now).plan.cores then Ok tt else Err NoSuchCore) }
+    {
+        if core < self.cores() {
+            Ok(())
+        } else {
+            Err(Refusal::NoSuchCore)
         }
     }
 
-    // Why a call of this core at this time is refused, if it is; no more is looked at than these two.
-    fn refusal(&self, core: u32, time: u32) -> Option<Refusal>
-        ensures { result ≡ cond (not (nat_lt core (B.Board.plan self.now.board).cores)) (Some NoSuchCore)
-            (if not (timely (state_on B.Board self.now) time) then Some BadTime else None) }
+    // Refuses a time that a call may not carry.
+    fn check_time(&self, time: u32) -> Result<(), Refusal>
+        ensures { result ≡ (if timely (state_on B.Board self.now) time then Ok tt else Err BadTime) }
     {
-        if core >= self.cores() {
-            return Some(Refusal::NoSuchCore);
+        if self.latest <= time && time <= LAST_TICK {
+            Ok(())
+        } else {
+            Err(Refusal::BadTime)
         }
-        if !self.takes(time) {
-            return Some(Refusal::BadTime);
-        }
-        None
-    }
-
-    // May a call carry this time?
-    fn takes(&self, time: u32) -> bool
-        ensures { result ≡ timely (state_on B.Board self.now) time }
-    {
-        self.latest <= time && time <= LAST_TICK
     }
 }

@@ -20,14 +20,8 @@ impl<B: Board, R: Rule> Frame<B, R> {
         ensures rule { self.new.rule ≡ rule_left R.Rule.after self.old.rule (state_on B.Board self.old) call }
     {
         match call {
-            Call::Ask { core, time } => match self.ask(core, time) {
-                Ok(answer) => Reply::Told(answer),
-                Err(refusal) => Reply::Refused(refusal),
-            },
-            Call::End { core, task, time } => match self.finish(core, task, time) {
-                Ok(()) => Reply::Noted,
-                Err(refusal) => Reply::Refused(refusal),
-            },
+            Call::Ask { core, time } => self.ask(core, time).into(),
+            Call::End { core, task, time } => self.finish(core, task, time).into(),
         }
     }
 

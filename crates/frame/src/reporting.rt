@@ -1,4 +1,4 @@
-ghost use Rattle.std.specs.Prelude.{◌≡◌, ◌≤◌, ◌++◌, length, take, drop};
+ghost use Rattle.std.specs.Prelude.{◌≡◌};
 ghost use Rattle.runs.specs.Calls.{look, report_answer, reported};
 ghost use Rattle.frame.specs.View.{state_on};
 
@@ -8,23 +8,12 @@ use calls::Refusal;
 use rule::Rule;
 use runs::{Look, Record};
 
-// Copies the first n records.
-fn copy_front(from: &[Record], to: &mut [Record], n: usize)
-    requires from { n ≤ length from.now }
-    requires to { n ≤ length to.old }
-    ensures { to.new ≡ take n from.now ++ drop n to.old }
-{
-    to[..n].copy_from_slice(&from[..n]);
-}
-
 impl<B: Board, R: Rule> Frame<B, R> {
     // How far the core has come.
     pub fn look(&self, core: u32) -> Result<Look, Refusal>
         ensures { result ≡ look (state_on B.Board self.now) core }
     {
-        if core >= self.cores() {
-            return Err(Refusal::NoSuchCore);
-        }
+        self.check_core(core)?;
         let at = self.board.core(core);
         let next = self.board.next(core);
         Ok(Look {
@@ -40,10 +29,11 @@ impl<B: Board, R: Rule> Frame<B, R> {
         ensures list { list.new ≡ reported (state_on B.Board self.now) list.old }
     {
         let tasks = self.board.table().tasks();
-        if list.len() < usize::from(tasks) {
+        let front = usize::from(tasks);
+        if list.len() < front {
             return Err(Refusal::ListTooShort);
         }
-        copy_front(&self.records, list, usize::from(tasks));
+        list[..front].copy_from_slice(self.table_records());
         Ok(tasks)
     }
 }

@@ -1,46 +1,35 @@
 ghost use Rattle.std.specs.Prelude.{◌≡◌, ◌≤◌, if◌then◌else◌, Some, None, slice_index_or};
-ghost use Rattle.runs.specs.Records.{fresh, went_loose};
-ghost use Rattle.runs.specs.Sums.{lower};
-ghost use Rattle.runs.specs.Calls.{next_of, next_row, not_over, at_large, lowest_start, slack, reserve, loose_count, sums, until};
-ghost use Rattle.frame.specs.View.{state_on, Soon, Within};
+ghost use Rattle.runs.specs.Records.{fresh};
+ghost use Rattle.runs.specs.Calls.{next_of, next_row, not_over, at_large, lowest_start, slack, reserve, loose_count, question, sums};
+ghost use Rattle.frame.specs.View.{state_on, Soon};
 
-use crate::Frame;
+use crate::candidate::Candidate;
+use crate::{Frame, LAST_TICK};
 use board::Board;
 use board::cores::Step;
 use calls::Refusal;
 use rule::Rule;
-
-// The smaller of a start, if there is one, and another.
-fn lower(low: Option<u32>, start: u32) -> Option<u32>
-    ensures { result ≡ lower low start }
-{
-    match low {
-        None => Some(start),
-        Some(other) => Some(other.min(start)),
-    }
-}
-
-// The start, if there is one, less the time.
-fn until(time: u32, low: Option<u32>) -> Option<i32>
-    requires time { time ≤ 268435455 }
-    requires soon { Soon low }
-    ensures { result ≡ until time low }
-{
-    match low {
-        None => None,
-        Some(start) => Some(start as i32 - time as i32),
-    }
-}
+use rule::question::Question;
+use runs::Record;
 
 impl<B: Board, R: Rule> Frame<B, R> {
-    // Was the core's next task started loose?
-    fn runs_loose(&self, core: u32) -> bool
-        ensures { result ≡ went_loose (slice_index_or (state_on B.Board self.now).records (next_of (state_on B.Board self.now) core) fresh).manner }
+    // The record of the task; a fresh one of a task that the table lacks.
+    fn record(&self, task: u16) -> Record
+        ensures { result ≡ slice_index_or (state_on B.Board self.now).records task fresh }
     {
-        match self.board.next(core) {
-            Some(task) => self.records[usize::from(task)].manner.is_loose(),
-            None => false,
-        }
+        self.table_records()
+            .get(usize::from(task))
+            .copied()
+            .unwrap_or(Record::FRESH)
+    }
+
+    // The record of the core's next task; a fresh one if none is left.
+    fn next_record(&self, core: u32) -> Record
+        ensures { let s = state_on B.Board self.now in result ≡ slice_index_or s.records (next_of s core) fresh }
+    {
+        self.board
+            .next(core)
+            .map_or(Record::FRESH, |task| self.record(task))
     }
 
     // Was the core's next task let loose, and has it not ended?
@@ -50,20 +39,19 @@ impl<B: Board, R: Rule> Frame<B, R> {
         match self.board.core(core).step {
             Step::Waiting | Step::Over => false,
             Step::Loose => true,
-            Step::Running => self.runs_loose(core),
+            Step::Running => self.next_record(core).manner.is_loose(),
         }
     }
 
-    // The smaller of a start, if there is one, and that of the core's next task, if the core is not over.
-    fn lower_with(&self, low: Option<u32>, core: u32) -> Option<u32>
-        requires { Soon low }
-        ensures is { result ≡ (if not_over (B.Board.progress self.now.board) core then lower low (next_row (state_on B.Board self.now) core).start else low) }
+    // The start of the core's next task, if the core is not over.
+    fn next_start(&self, core: u32) -> Option<u32>
+        ensures is { let s = state_on B.Board self.now in result ≡ (if not_over s.progress core then Some (next_row s core).start else None) }
         ensures soon { Soon result }
     {
         if self.board.core(core).step.is_over() {
-            low
+            None
         } else {
-            lower(low, self.next_row(core).start)
+            Some(self.next_row(core).start)
         }
     }
 
@@ -72,58 +60,51 @@ impl<B: Board, R: Rule> Frame<B, R> {
         ensures is { result ≡ lowest_start (state_on B.Board self.now) }
         ensures soon { Soon result }
     {
-        let mut low = None;
-        for k in 0..self.cores() {
-            low = self.lower_with(low, k);
-        }
-        low
+        (0..self.cores()).filter_map(|k| self.next_start(k)).min()
     }
 
-    // The claim of the core's next task, if that was let loose and has not ended.
-    fn claim_at_large(&self, core: u32) -> Option<u32>
-        ensures is { result ≡ (if at_large (state_on B.Board self.now) core then Some (next_row (state_on B.Board self.now) core).claim else None) }
-        ensures small { Within 2097152 result }
+    // The claims of the tasks let loose and not ended.
+    fn reserve(&self) -> u32
+        ensures { result ≡ reserve (state_on B.Board self.now) }
     {
-        if self.at_large(core) {
-            Some(self.next_row(core).claim)
-        } else {
-            None
-        }
+        (0..self.cores())
+            .filter(|k| self.at_large(*k))
+            .map(|k| self.next_row(k).claim)
+            .sum()
     }
 
-    // The claims of the tasks let loose and not ended, and how many there are.
-    fn all_at_large(&self) -> (u32, u8)
-        ensures { result ≡ (reserve (state_on B.Board self.now), loose_count (state_on B.Board self.now)) }
+    // How many tasks are let loose and not ended.
+    fn loose_count(&self) -> u8
+        ensures { result ≡ loose_count (state_on B.Board self.now) }
     {
-        let mut reserve = 0;
-        let mut count = 0;
-        for k in 0..self.cores() {
-            if let Some(claim) = self.claim_at_large(k) {
-                reserve += claim;
-                count += 1;
-            }
-        }
-        (reserve, count)
+        (0..self.cores()).filter(|k| self.at_large(*k)).count() as u8
     }
 
-    // Slack, reserve and the number of tasks let loose and not ended.
-    pub(crate) fn totals(&self, time: u32) -> (Option<i32>, u32, u8)
-        requires { time ≤ 268435455 }
-        ensures { result ≡ (slack (state_on B.Board self.now) time, reserve (state_on B.Board self.now), loose_count (state_on B.Board self.now)) }
+    // That smallest start less the time; none when all cores are over.
+    fn slack(&self, time: u32) -> Option<i32>
+        requires { time ≤ LAST_TICK }
+        ensures { result ≡ slack (state_on B.Board self.now) time }
     {
-        let slack = until(time, self.lowest_start());
-        let (reserve, loose) = self.all_at_large();
-        (slack, reserve, loose)
+        self.lowest_start().map(|start| start as i32 - time as i32)
     }
 
-    // The same at any time, if a call may carry it: slack (none when all cores are over), reserve, number loose.
+    // What the rule is asked about the candidate; nothing when all cores are over.
+    pub(crate) fn question(&self, candidate: Candidate) -> Option<Question>
+        ensures { result ≡ question (state_on B.Board self.now) candidate.core candidate.time }
+    {
+        Some(Question {
+            slack: self.slack(candidate.time)?,
+            reserve: self.reserve(),
+            claim: self.next_row(candidate.core).claim,
+            loose: self.loose_count(),
+        })
+    }
+
+    // Slack, reserve and the number of tasks let loose and not ended, at a time that a call may carry.
     pub fn sums(&self, time: u32) -> Result<(Option<i32>, u32, u8), Refusal>
         ensures { result ≡ sums (state_on B.Board self.now) time }
     {
-        if self.takes(time) {
-            Ok(self.totals(time))
-        } else {
-            Err(Refusal::BadTime)
-        }
+        self.check_time(time)?;
+        Ok((self.slack(time), self.reserve(), self.loose_count()))
     }
 }

@@ -6,7 +6,7 @@ use crate::Rule;
 use crate::question::Question;
 
 // Never lets a task go before its turn.
-#[derive(Clone, Copy)]
+#[derive(Clone, Copy, PartialEq, Eq, Debug)]
 pub struct Locked;
 
 impl Rule for Locked {
@@ -25,7 +25,7 @@ impl Rule for Locked {
 }
 
 // Lets a task go exactly when the slack covers the reserve and the claim.
-#[derive(Clone, Copy)]
+#[derive(Clone, Copy, PartialEq, Eq, Debug)]
 pub struct BySlack;
 
 impl Rule for BySlack {

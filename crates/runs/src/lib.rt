@@ -54,10 +54,7 @@ impl Manner {
     pub fn is_loose(self) -> bool
         ensures { result ≡ went_loose self }
     {
-        match self {
-            Manner::Loose => true,
-            Manner::NotStarted | Manner::InTurn => false,
-        }
+        matches!(self, Manner::Loose)
     }
 }
 
