@@ -1,6 +1,8 @@
 -- A log with one more event.
-use Rattle.std.proofs.Common.{◌≡◌, ℕ, Bool, true, false, cond, ◌&&◌, ◌||◌, List, [], ◌∷◌, ◌++◌, refl, ap, ◌∙◌}
+use Rattle.std.proofs.Common.{◌≡◌, ℕ, Bool, true, false, cond, ◌||◌, List, [], ◌∷◌, ◌++◌, refl, ap, ◌∙◌}
+use Rattle.std.proofs.Math.Bool.{or-false}
 use Rattle.std.proofs.lemmas.Bool.{or_left, or_right}
+use Rattle.std.proofs.lemmas.List.Folds.{list_any-append}
 use Rattle.calls.specs.declared.Reply.{Reply}
 use Rattle.calls.specs.declared.Call.{Call}
 use Rattle.runs.specs.declared.Event.{Event}
@@ -10,31 +12,13 @@ use Rattle.runs.specs.Log.{call_time, accepted, occurs, latest_from}
 abbrev pub event : Call → Reply → Event
 event c r = record { call = c; reply = r }
 
--- a false side adds nothing to a test, and fails it
-pub or_no : (b : Bool) → (b || false) ≡ b
-or_no true = refl
-or_no false = refl
-
-pub and_no : (b : Bool) → (b && false) ≡ false
-and_no true = refl
-and_no false = refl
-
--- three tests, bracketed either way
-or_assoc : (a b c : Bool) → (a || (b || c)) ≡ ((a || b) || c)
-or_assoc true b c = refl
-or_assoc false b c = refl
-
--- a log with more events, and with one more
-occurs_append : (f : Event → Bool) (log es : List Event) → occurs f (log ++ es) ≡ (occurs f log || occurs f es)
-occurs_append f [] es = refl
-occurs_append f (x ∷ log) es = ap (λ b. f x || b) (occurs_append f log es) ∙ or_assoc (f x) (occurs f log) (occurs f es)
-
+-- a log with one more event
 pub occurs_push : (f : Event → Bool) (log : List Event) (e : Event) → occurs f (log ++ (e ∷ [])) ≡ (occurs f log || f e)
-occurs_push f log e = occurs_append f log (e ∷ []) ∙ ap (λ b. occurs f log || b) (or_no (f e))
+occurs_push f log e = list_any-append f log (e ∷ []) ∙ ap (λ b. occurs f log || b) (or-false (f e))
 
 -- an event at which f fails changes nothing
 pub keeps : (f : Event → Bool) (log : List Event) {b : Bool} (e : Event) → occurs f log ≡ b → f e ≡ false → occurs f (log ++ (e ∷ [])) ≡ b
-keeps f log e h n = occurs_push f log e ∙ (ap (λ x. occurs f log || x) n ∙ (or_no (occurs f log) ∙ h))
+keeps f log e h n = occurs_push f log e ∙ (ap (λ x. occurs f log || x) n ∙ (or-false (occurs f log) ∙ h))
 
 -- an event at which f holds, and one after such an event
 pub adds : (f : Event → Bool) (log : List Event) (e : Event) → f e ≡ true → occurs f (log ++ (e ∷ [])) ≡ true

@@ -1,5 +1,6 @@
 -- In order, in turn, and inputs first: what had to end before a task started has ended.
 use Rattle.std.proofs.Common.{◌≡◌, ℕ, ◌≤◌, true, false, not, eqb, ◌⊎◌, List, [], ◌∷◌, ◌++◌, sym, refl, ap, ◌∙◌, subst, inl, inr, ⊎_elim, arith}
+use Rattle.std.proofs.Math.Bool.{or-false}
 use Rattle.std.proofs.lemmas.Bool.{cases_Bool, cases_eq, both_ways, false≢true, not-true, not_from_false, eqb-true, eq-eqb, leb-true, and_parts, or_from, or_parts, or_cases, or_left, or_right, cond-true, cond-false}
 use Rattle.table.specs.Sets.{has}
 use Rattle.table.specs.Rows.{Plan, row, wait}
@@ -14,7 +15,7 @@ use Rattle.runs.specs.Calls.{State, Outcome, next_of, next_row}
 use Rattle.runs.specs.Log.{starts, sends_loose, ends, has_started, told_loose, has_ended, runs}
 use Rattle.runs.specs.Promises.{Task, precedes, reads, InOrder, InTurn, InputsFirst}
 use Rattle.runs.proofs.Tasks.{At, at_task, earlier, awaits}
-use Rattle.runs.proofs.Logs.{event, or_no, occurs_push, still}
+use Rattle.runs.proofs.Logs.{event, occurs_push, still}
 use Rattle.runs.proofs.Agree.{Agree}
 use Rattle.runs.proofs.Ways.{Open, DataMet, Way, way, Close, close}
 use Rattle.runs.proofs.Run.{Run}
@@ -84,7 +85,7 @@ module _ {log : List Event} {s : State} (g : Agree log s) (q : Sound s.plan log)
   sound_ask _ (Way.over c) = sound_quiet q _ (λ t. refl)
   sound_ask _ (Way.hold c) = sound_quiet q _ (λ t. refl)
   sound_ask _ (Way.again o c h) = sound_quiet q _ (λ t. refl)
-  sound_ask _ (Way.goes o w a) = sound_start q (event (Ask k time) (Told (Go (next_of s k)))) (next_of s k) o.at.task (λ t h. or_no _ ∙ h)
+  sound_ask _ (Way.goes o w a) = sound_start q (event (Ask k time) (Told (Go (next_of s k)))) (next_of s k) o.at.task (λ t h. or-false _ ∙ h)
       (λ r h l c. ended_by g o r h l (λ d. a _ (g.ordered.on_core r h) d))
   sound_ask _ (Way.looses o h a) = sound_loose o a
   sound_ask _ (Way.eases o w c room) = sound_quiet q _ (λ t. refl)

@@ -1,5 +1,6 @@
 -- No standstill: where no core runs, one ask to each core starts a task.
 use Rattle.std.proofs.Common.{◌≡◌, ℕ, suc, ◌<◌, ◌≤◌, true, false, not, ◌&&◌, eqb, List, [], ◌∷◌, ◌++◌, length, count_by, sym, refl, ap, ◌∙◌, subst, ⊎_elim, arith}
+use Rattle.std.proofs.Math.Bool.{or-false}
 use Rattle.std.proofs.lemmas.List.{append_assoc}
 use Rattle.std.proofs.lemmas.Bool.{cases_Bool, cases_lt, both_ways, false≢true, eqb-true, eq-eqb, ne_eqb, lt-ltb, le-leb, and_from, or_left, or_right, cond-true}
 use Rattle.table.specs.Rows.{Plan, row, on, wait, nth_on, tasks_on}
@@ -14,7 +15,7 @@ use Rattle.runs.specs.Calls.{State, Outcome, last_tick, timely, next_of, next_ro
 use Rattle.runs.specs.Log.{asking, call_time, accepted, starts, ends, asks, has_started, has_ended, runs, latest_from, ended_there, ended_count}
 use Rattle.runs.specs.Promises.{Task, Timely, AllAccepted, SomeStarts, Stalled, NoStandstill}
 use Rattle.runs.proofs.Tasks.{at_next, at_task, at_below}
-use Rattle.runs.proofs.Logs.{event, or_no, keeps, latest_push}
+use Rattle.runs.proofs.Logs.{event, keeps, latest_push}
 use Rattle.runs.proofs.Agree.{Agree}
 use Rattle.runs.proofs.Ways.{Open, AllMet, Way, running_not, opens, way}
 use Rattle.runs.proofs.Run.{Run}
@@ -105,7 +106,7 @@ module _ {log : List Event} {s : State} (g : Agree log s) (k time : ℕ) (l : k 
   asked _ (Way.over c) = none_starts _ c refl (λ t. refl) (λ t. refl)
   asked _ (Way.hold c) = none_starts _ c refl (λ t. refl) (λ t. refl)
   asked _ (Way.again o c h) = none_starts _ c refl (λ t. refl) (λ t. refl)
-  asked _ (Way.goes o w a) = next_starts _ o refl (λ t. or_no _) (λ t. refl)
+  asked _ (Way.goes o w a) = next_starts _ o refl (λ t. or-false _) (λ t. refl)
   asked _ (Way.looses o h a) = next_starts _ o refl (λ t. refl) (λ t. refl)
   asked _ (Way.eases o w c room) = none_starts _ c refl (λ t. refl) (λ t. refl)
   asked _ (Way.eases_goes o w c room a) = next_starts _ o refl (λ t. refl) (λ t. refl)
@@ -138,7 +139,7 @@ idle_on log {e} a d idle t h c =
 
 -- events of which the first starts a task; of which a later one does
 starts_first : {p : Plan} {e : Event} {es : List Event} → SomeStarts p (e ∷ []) → SomeStarts p (e ∷ es)
-starts_first {e = e} b = record { task = b.task; known = b.known; begins = or_left _ _ (sym (or_no (starts b.task e)) ∙ b.begins) }
+starts_first {e = e} b = record { task = b.task; known = b.known; begins = or_left _ _ (sym (or-false (starts b.task e)) ∙ b.begins) }
 
 starts_later : {p : Plan} {e : Event} {es : List Event} → SomeStarts p es → SomeStarts p (e ∷ es)
 starts_later {e = e} b = record { task = b.task; known = b.known; begins = or_right (starts b.task e) _ b.begins }

@@ -1,5 +1,6 @@
 -- Every call of a run leaves the frame in agreement with the log.
 use Rattle.std.proofs.Common.{◌≡◌, ℕ, suc, ◌<◌, ◌≤◌, true, false, ◌||◌, eqb, ltb, leb, ◌⊎◌, List, [], ◌∷◌, ◌++◌, length, get_or, set, sym, refl, ap, ◌∙◌, subst, inl, inr, ⊎_elim, arith}
+use Rattle.std.proofs.Math.Bool.{or-false, and-false}
 use Rattle.std.proofs.lemmas.List.{get_or-set_same, get_or-set_other, length-set, length-replicate}
 use Rattle.std.proofs.lemmas.List.FromFn.{length-map-range_with_len, get_or-map-range_with_len}
 use Rattle.std.proofs.lemmas.Bool.{cases_lt, cases_eq, eqb-false, eq-eqb, ltb-true, ltb-false, le-leb, lt-leb, and_from, and_left, or_from, or_left, cond_both}
@@ -24,7 +25,7 @@ use Rattle.runs.specs.Records.{went_loose, fresh, started_at, ended_at}
 use Rattle.runs.specs.Calls.{State, Outcome, opening, next_of, at_time, starting}
 use Rattle.runs.specs.Log.{goes, goes_loose, frees, names, starts, loosens, ends, has_started, let_loose, has_ended}
 use Rattle.runs.proofs.Tasks.{At, at_below, same_at, apart}
-use Rattle.runs.proofs.Logs.{event, or_no, and_no, keeps, adds, latest_push}
+use Rattle.runs.proofs.Logs.{event, keeps, adds, latest_push}
 use Rattle.runs.proofs.Agree.{loosed, Stands, Agree, stay, with_core, moved}
 use Rattle.runs.proofs.Ways.{Open, Way, waiting_not, way, Close, close}
 use Rattle.runs.proofs.Run.{Run}
@@ -100,7 +101,7 @@ agree_refused {log} {s} g c r =
       over = g.over;
       fits = g.fits;
       latest = g.latest ∙ sym (latest_push 0 log e);
-      each = λ j n t a. stay (g.each j n t a) e (and_no (names t c)) refl refl;
+      each = λ j n t a. stay (g.each j n t a) e (and-false (names t c)) refl refl;
     }
 
 module _ {log : List Event} {s : State} (g : Agree log s) (k time : ℕ) where
@@ -197,7 +198,7 @@ module _ {log : List Event} {s : State} (g : Agree log s) (k time : ℕ) where
   agree_ask _ (Way.goes o w a) =
       let e = event (Ask k time) (Told (Go (next_of s k))) in
       let d = waiting_not _ w in
-      agree_start o InTurn (Go (next_of s k)) (λ t h. (or_no _ ∙ h, refl)) (adds (starts (next_of s k)) log e (or_no _ ∙ eq-eqb (next_of s k) (next_of s k) refl))
+      agree_start o InTurn (Go (next_of s k)) (λ t h. (or-false _ ∙ h, refl)) (adds (starts (next_of s k)) log e (or-false _ ∙ eq-eqb (next_of s k) (next_of s k) refl))
       (keeps (loosens (next_of s k)) log e (((g.each k _ _ o.at).now refl).2 ∙ quiet_loosed (step_of s.progress k) _ d.0 d.2) refl)
   agree_ask _ (Way.looses o h a) =
       let e = event (Ask k time) (Told (Loose (next_of s k))) in

@@ -1,5 +1,6 @@
 -- Every call keeps the plant within the table's times.
 use Rattle.std.proofs.Common.{◌≡◌, ℕ, suc, ◌+◌, ◌-◌, ◌≤◌, true, false, cond, ◌||◌, eqb, List, ◌∷◌, get_or, set, sym, refl, ap, ◌∙◌, subst, arith}
+use Rattle.std.proofs.Math.Bool.{or-false}
 use Rattle.std.proofs.lemmas.List.{get_or-set_same}
 use Rattle.std.proofs.lemmas.Bool.{both_ways, leb-false, or_left, or_right, cond-true, cond-false}
 use Rattle.table.specs.Rows.{row, nth_on}
@@ -20,7 +21,7 @@ use Rattle.runs.specs.Calls.{State, Outcome, next_of, next_row, at_large, at_tim
 use Rattle.runs.specs.Log.{goes, goes_loose, starts}
 use Rattle.runs.specs.Plant.{Move, call, time, log_of, left, purse}
 use Rattle.runs.proofs.Tasks.{at_next, apart, sooner}
-use Rattle.runs.proofs.Logs.{event, or_no}
+use Rattle.runs.proofs.Logs.{event}
 use Rattle.runs.proofs.Agree.{loosed, Agree, with_core}
 use Rattle.runs.proofs.Ways.{Open, Way, pending_not, Close}
 use Rattle.runs.proofs.Steps.{rest_quiet, rest_over, quiet_loosed, manner_other, manner_same}
@@ -75,7 +76,7 @@ module _ {s : State} (ms : List Move) (g : Agree (log_of ms) s) where
   bounds_ask k b _ (Way.over c) = bounds_quiet (time ms) _ (λ t. refl) b
   bounds_ask k b _ (Way.hold c) = bounds_quiet (time ms) _ (λ t. refl) b
   bounds_ask k b _ (Way.again o c h) = bounds_quiet (time ms) _ (λ t. refl) b
-  bounds_ask k b _ (Way.goes o w a) = bounds_start k o (or_left _ _ w) InTurn (Go (next_of s k)) 0 (λ t h. or_no _ ∙ h) (omega arith) (less_to_spare b (omega arith))
+  bounds_ask k b _ (Way.goes o w a) = bounds_start k o (or_left _ _ w) InTurn (Go (next_of s k)) 0 (λ t h. or-false _ ∙ h) (omega arith) (less_to_spare b (omega arith))
   bounds_ask k b _ (Way.looses o h a) =
       let e = event (Ask k (time ms)) (Told (Loose (next_of s k))) in
       let h' : at_large s k ≡ true = or_left _ _ h in

@@ -1,6 +1,6 @@
 -- What a log of calls and replies tells of the tasks, and of nothing else. A log has the oldest event first.
 use Rattle.std.specs.Prelude.{ℕ, Bool, true, false, cond, not, ◌&&◌, ◌||◌, List, [], ◌∷◌, map, length, ◌==◌, nat_le}
-use Rattle.std.specs.List.{range_with_len}
+use Rattle.std.specs.List.{list_any, range_with_len}
 use Rattle.table.specs.Rows.{Plan, row, on, nth_on, tasks_on}
 use Rattle.board.specs.declared.cores.Core.{Core}
 use Rattle.board.specs.declared.cores.Step.{Step}
@@ -82,8 +82,7 @@ asks k e = asking k e.call
 
 -- some event of the log is of this kind
 abbrev pub occurs : (Event → Bool) → List Event → Bool
-occurs f [] = false
-occurs f (e ∷ es) = f e || occurs f es
+occurs = list_any
 
 -- task t has started; was told to go loose; was let loose; has ended; runs
 abbrev pub has_started : List Event → ℕ → Bool
