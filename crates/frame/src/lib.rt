@@ -33,12 +33,13 @@ pub struct Frame<B: Board, R: Rule> {
     board: B,
     rule: R,
     latest: u32,
-    // Of these, the first count, as many as the table has tasks.
+    // Of these, the first count, as many as the table has tasks: a library crate has no heap for just so many.
     records: [Record; 384],
 }
 
 impl<B: Board, R: Rule> Frame<B, R> {
     // Opens the board on the table, and with it a frame in which no task has started.
+    #[tactic(auto, using(crate::proofs::Parts::fresh_front, table::proofs::Tables::few_rows))]
     pub fn open(table: &Table, mut board: B, rule: R) -> Frame<B, R>
         ensures frame { state_on B.Board result ≡ opening (plan_of table.now) }
         ensures rule { result.rule ≡ rule }

@@ -101,6 +101,7 @@ impl<B: Board, R: Rule> Frame<B, R> {
     }
 
     // Slack, reserve and the number of tasks let loose and not ended, at a time that a call may carry.
+    // The tuple is a form that the project asks for.
     pub fn sums(&self, time: u32) -> Result<(Option<i32>, u32, u8), Refusal>
         ensures { result ≡ sums (state_on B.Board self.now) time }
     {

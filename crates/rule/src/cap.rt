@@ -6,7 +6,7 @@ use crate::Rule;
 use crate::question::Question;
 
 // Lets at most `cap` tasks be loose at a time, and asks the rule below only while there are fewer.
-#[derive(Drop)]
+#[derive(Clone, Copy, Drop, PartialEq, Eq, Debug)]
 pub struct Capped<R: Rule> {
     cap: u8,
     below: R,

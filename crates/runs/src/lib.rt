@@ -17,7 +17,7 @@ pub struct Event {
 }
 
 impl Event {
-    // The call with a place for its reply.
+    // The call with a place for its reply, which any reply fills until the call is made.
     pub fn new(call: Call) -> Event
         ensures { result ≡ record { call = call; reply = Noted } }
     {
@@ -58,7 +58,7 @@ impl Manner {
     }
 }
 
-// What a report tells of a task. A time that is missing is 0.
+// What a report tells of a task. A time that is missing is 0: a form that the project asks for.
 #[derive(Clone, Copy, PartialEq, Eq, Debug)]
 pub struct Record {
     pub manner: Manner,
