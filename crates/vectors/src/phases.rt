@@ -45,6 +45,7 @@ impl TaskVectors {
     };
 }
 
+// A core and its task stay two arguments: they are numbers of two types, and the definitions take them in this order.
 impl Vectors {
     // The vectors of the task, empty ones if there can be no such task.
     fn at(&self, task: u16) -> TaskVectors
