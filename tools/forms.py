@@ -95,7 +95,7 @@ def twins(root):
 
 def counted_loops(root):
     """Loops over a range of numbers, over an index, and `while`."""
-    yield from grep(root, r"\bfor \w+ in [^{]*\.\.|\bwhile\b|\bloop \{|\.enumerate\(\)")
+    yield from grep(root, r"\bfor \w+ in (?!&)[^{]*\.\.|\bwhile\b|\bloop \{|\.enumerate\(\)")
 
 
 def by_hand(root):

@@ -30,6 +30,7 @@ impl Step {
         }
     }
 
+    // Each test has a name, as `Option::is_some` has, which may be handed on.
     pub fn is_waiting(self) -> bool
         ensures { result ≡ is_waiting self }
     {

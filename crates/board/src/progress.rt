@@ -89,20 +89,22 @@ impl Progress {
         self.table.first_on(core, task + 1)
     }
 
-    // Moves the core's next task to another step if it may move, and says whether it did.
-    fn move_if(&mut self, may: bool, core: u32, step: Step) -> bool
-        requires left { may ≡ true → is_over (step_of (progress_at self.old) core) ≡ false }
-        requires more { is_over step ≡ false }
-        ensures answer { result ≡ may }
+    // Moves the core's next task to another step if it stands at one from which it may, and says whether it did.
+    fn advance<F: FnOnce(Step) -> bool>(&mut self, core: u32, may: F, to: Step) -> bool
+        requires callable { F.pre may (step_of (progress_at self.old) core) }
+        requires left { F.post may (step_of (progress_at self.old) core) true → is_over (step_of (progress_at self.old) core) ≡ false }
+        requires more { is_over to ≡ false }
+        ensures answer { F.post may (step_of (progress_at self.old) core) result }
         ensures plan { plan_at self.new ≡ plan_at self.old }
         ensures kept { result ≡ false → self.new ≡ self.old }
-        ensures progress { progress_at self.new ≡ cond may (stepped (progress_at self.old) core step) (progress_at self.old) }
+        ensures progress { progress_at self.new ≡ cond result (stepped (progress_at self.old) core to) (progress_at self.old) }
     {
-        if may {
-            let row = &mut self.cores.rows[core as usize];
-            row.move_to(step);
+        if !may(self.core(core).step) {
+            return false;
         }
-        may
+        let row = &mut self.cores.rows[core as usize];
+        row.move_to(to);
+        true
     }
 
     // Lets the core's next task loose, if it waits.
@@ -112,8 +114,7 @@ impl Progress {
         ensures kept { result ≡ false → self.new ≡ self.old }
         ensures progress { progress_at self.new ≡ loosened (progress_at self.old) core }
     {
-        let waits = self.core(core).step.is_waiting();
-        self.move_if(waits, core, Step::Loose)
+        self.advance(core, Step::is_waiting, Step::Loose)
     }
 
     // Starts the core's next task, if it waits or is loose.
@@ -123,8 +124,7 @@ impl Progress {
         ensures kept { result ≡ false → self.new ≡ self.old }
         ensures progress { progress_at self.new ≡ launched (progress_at self.old) core }
     {
-        let pending = self.core(core).step.is_pending();
-        self.move_if(pending, core, Step::Running)
+        self.advance(core, Step::is_pending, Step::Running)
     }
 
     // Ends the core's running task, if it runs one.

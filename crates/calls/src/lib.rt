@@ -87,7 +87,7 @@ impl Refusal {
     }
 }
 
-// What a call comes back with.
+// What a call comes back with. A `Result` would have to hold an answer or nothing beside the refusal.
 #[derive(Clone, Copy, PartialEq, Eq, Debug)]
 pub enum Reply {
     // The answer to an ask.

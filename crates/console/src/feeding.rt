@@ -17,7 +17,7 @@ pub fn take_byte<B: Board, R: Rule>(
     line: &mut LineBuffer,
     byte: u8,
 ) -> Option<Shown>
-    ensures { fed (kept line.new) (line_done result (state_of B.Board.plan B.Board.progress frame.new) frame.new.rule) ≡ byte_fed R.Rule.says R.Rule.after byte (kept line.old) (state_of B.Board.plan B.Board.progress frame.old) frame.old.rule }
+    ensures { fed (kept line.new) (line_done result (state_of B.Board frame.new) frame.new.rule) ≡ byte_fed R.Rule.says R.Rule.after byte (kept line.old) (state_of B.Board frame.old) frame.old.rule }
 {
     if byte != b'\n' {
         line.push(byte);

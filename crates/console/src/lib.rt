@@ -40,7 +40,7 @@ impl fmt::Display for Shown {
 // Plays one line: makes its call, if it writes one, and says what is to be shown. Where no call is made, or the call
 // is refused, nothing at all is changed.
 pub fn play_line<B: Board, R: Rule>(frame: &mut Frame<B, R>, line: &[u8]) -> Option<Shown>
-    ensures played { line_done result (state_of B.Board.plan B.Board.progress frame.new) frame.new.rule ≡ line_played R.Rule.says R.Rule.after (read line.now) (state_of B.Board.plan B.Board.progress frame.old) frame.old.rule }
+    ensures played { line_done result (state_of B.Board frame.new) frame.new.rule ≡ line_played R.Rule.says R.Rule.after (read line.now) (state_of B.Board frame.old) frame.old.rule }
     ensures kept { made_call result ≡ false → frame.new ≡ frame.old }
 {
     match read_line(line) {

@@ -3,7 +3,7 @@ ghost use Rattle.board.specs.Meaning.{clear, easable};
 ghost use Rattle.calls.specs.Words.{told};
 ghost use Rattle.calls.specs.declared.Reply.TheVariants.{Told};
 ghost use Rattle.runs.specs.Calls.{next_of, timely, question, says_to, moved_by, rule_after, outcome, answered, starting, go_on, ease_or_hold, ask};
-ghost use Rattle.frame.specs.View.{state_on};
+ghost use Rattle.frame.specs.View.{state_of};
 
 use crate::Frame;
 use crate::candidate::Candidate;
@@ -15,8 +15,8 @@ use runs::{Manner, Record};
 impl<B: Board, R: Rule> Frame<B, R> {
     // Asks the rule whether the core's next task may be let loose.
     fn grants(&mut self, candidate: Candidate) -> bool
-        ensures answer { result ≡ says_to (R.Rule.says self.old.rule) (question (state_on B.Board self.old) candidate.core candidate.time) }
-        ensures rule { self.new ≡ record self.old { rule = moved_by R.Rule.after self.old.rule (question (state_on B.Board self.old) candidate.core candidate.time) } }
+        ensures answer { result ≡ says_to (R.Rule.says self.old.rule) (question (state_of B.Board self.old) candidate.core candidate.time) }
+        ensures rule { self.new ≡ record self.old { rule = moved_by R.Rule.after self.old.rule (question (state_of B.Board self.old) candidate.core candidate.time) } }
     {
         let Some(question) = self.question(candidate) else {
             return false;
@@ -27,8 +27,8 @@ impl<B: Board, R: Rule> Frame<B, R> {
     // Starts the task on its core, which is clear, and notes it.
     #[tactic(auto, using(board::specs::Keeping::take_set_in))]
     fn begin(&mut self, candidate: Candidate, manner: Manner)
-        requires { let s = state_on B.Board self.old in clear s.plan s.progress candidate.core ≡ true }
-        ensures frame { state_on B.Board self.new ≡ starting (state_on B.Board self.old) candidate.core candidate.task candidate.time manner }
+        requires { let s = state_of B.Board self.old in clear s.plan s.progress candidate.core ≡ true }
+        ensures frame { state_of B.Board self.new ≡ starting (state_of B.Board self.old) candidate.core candidate.task candidate.time manner }
         ensures rule { self.new.rule ≡ self.old.rule }
     {
         self.board.start(candidate.core);
@@ -42,8 +42,8 @@ impl<B: Board, R: Rule> Frame<B, R> {
 
     // The same, in turn or loose as the core's step says.
     fn go(&mut self, candidate: Candidate) -> Answer
-        requires { let s = state_on B.Board self.old in clear s.plan s.progress candidate.core ≡ true }
-        ensures outcome { outcome (Told result) (state_on B.Board self.new) ≡ go_on (state_on B.Board self.old) candidate.core candidate.task candidate.time }
+        requires { let s = state_of B.Board self.old in clear s.plan s.progress candidate.core ≡ true }
+        ensures outcome { outcome (Told result) (state_of B.Board self.new) ≡ go_on (state_of B.Board self.old) candidate.core candidate.task candidate.time }
         ensures rule { self.new.rule ≡ self.old.rule }
     {
         if self.board.core(candidate.core).step.is_loose() {
@@ -57,7 +57,7 @@ impl<B: Board, R: Rule> Frame<B, R> {
 
     // Makes the time the latest and gives the answer, with which no task starts.
     fn note(&mut self, time: u32, answer: Answer) -> Answer
-        ensures outcome { let s = state_on B.Board self.old in outcome (Told result) (state_on B.Board self.new) ≡ answered s time s.progress answer }
+        ensures outcome { let s = state_of B.Board self.old in outcome (Told result) (state_of B.Board self.new) ≡ answered s time s.progress answer }
         ensures rule { self.new.rule ≡ self.old.rule }
     {
         self.latest = time;
@@ -66,9 +66,9 @@ impl<B: Board, R: Rule> Frame<B, R> {
 
     // What an ask comes to where the core's next task is not clear.
     fn ease_or_hold(&mut self, candidate: Candidate) -> Answer
-        requires { candidate.task ≡ next_of (state_on B.Board self.old) candidate.core }
-        ensures outcome { outcome (Told result) (state_on B.Board self.new) ≡ ease_or_hold (R.Rule.says self.old.rule) (state_on B.Board self.old) candidate.core candidate.time }
-        ensures rule { let s = state_on B.Board self.old in self.new.rule ≡ (if easable s.plan s.progress candidate.core then moved_by R.Rule.after self.old.rule (question s candidate.core candidate.time) else self.old.rule) }
+        requires { candidate.task ≡ next_of (state_of B.Board self.old) candidate.core }
+        ensures outcome { outcome (Told result) (state_of B.Board self.new) ≡ ease_or_hold (R.Rule.says self.old.rule) (state_of B.Board self.old) candidate.core candidate.time }
+        ensures rule { let s = state_of B.Board self.old in self.new.rule ≡ (if easable s.plan s.progress candidate.core then moved_by R.Rule.after self.old.rule (question s candidate.core candidate.time) else self.old.rule) }
     {
         let Candidate { core, task, time } = candidate;
         if self.board.easable(core) && self.grants(candidate) {
@@ -87,11 +87,11 @@ impl<B: Board, R: Rule> Frame<B, R> {
 
     // What an ask comes to where the core and the time are taken.
     fn answer(&mut self, core: u32, time: u32) -> Result<Answer, Refusal>
-        requires core { core < (state_on B.Board self.old).plan.cores }
-        requires timely { timely (state_on B.Board self.old) time ≡ true }
+        requires core { core < (state_of B.Board self.old).plan.cores }
+        requires timely { timely (state_of B.Board self.old) time ≡ true }
         ensures kept { is_err result ≡ true → self.new ≡ self.old }
-        ensures outcome { outcome (told result) (state_on B.Board self.new) ≡ ask (R.Rule.says self.old.rule) (state_on B.Board self.old) core time }
-        ensures rule { self.new.rule ≡ rule_after R.Rule.after self.old.rule (state_on B.Board self.old) core time }
+        ensures outcome { outcome (told result) (state_of B.Board self.new) ≡ ask (R.Rule.says self.old.rule) (state_of B.Board self.old) core time }
+        ensures rule { self.new.rule ≡ rule_after R.Rule.after self.old.rule (state_of B.Board self.old) core time }
     {
         if self.board.core(core).step.is_running() {
             return Err(Refusal::CoreBusy);
@@ -110,8 +110,8 @@ impl<B: Board, R: Rule> Frame<B, R> {
     // What the core is to do now. The rule is asked only if the core is not clear and can be eased.
     pub fn ask(&mut self, core: u32, time: u32) -> Result<Answer, Refusal>
         ensures kept { is_err result ≡ true → self.new ≡ self.old }
-        ensures outcome { outcome (told result) (state_on B.Board self.new) ≡ ask (R.Rule.says self.old.rule) (state_on B.Board self.old) core time }
-        ensures rule { self.new.rule ≡ rule_after R.Rule.after self.old.rule (state_on B.Board self.old) core time }
+        ensures outcome { outcome (told result) (state_of B.Board self.new) ≡ ask (R.Rule.says self.old.rule) (state_of B.Board self.old) core time }
+        ensures rule { self.new.rule ≡ rule_after R.Rule.after self.old.rule (state_of B.Board self.old) core time }
     {
         self.check_core(core)?;
         self.check_time(time)?;

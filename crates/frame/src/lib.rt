@@ -7,7 +7,7 @@ ghost use Rattle.board.specs.Steps.{is_over};
 ghost use Rattle.board.specs.Meaning.{step_of};
 ghost use Rattle.calls.specs.declared.Refusal.TheVariants.{NoSuchCore, BadTime};
 ghost use Rattle.runs.specs.Calls.{opening, next_of, next_row, timely};
-ghost use Rattle.frame.specs.View.{state_on, Within};
+ghost use Rattle.frame.specs.View.{state_of, Within};
 
 use board::Board;
 use calls::Refusal;
@@ -41,7 +41,7 @@ impl<B: Board, R: Rule> Frame<B, R> {
     // Opens the board on the table, and with it a frame in which no task has started.
     #[tactic(auto, using(crate::proofs::Parts::fresh_front, table::proofs::Tables::few_rows))]
     pub fn open(table: &Table, mut board: B, rule: R) -> Frame<B, R>
-        ensures frame { state_on B.Board result ≡ opening (plan_of table.now) }
+        ensures frame { state_of B.Board result ≡ opening (plan_of table.now) }
         ensures rule { result.rule ≡ rule }
     {
         board.open(table);
@@ -55,14 +55,14 @@ impl<B: Board, R: Rule> Frame<B, R> {
 
     // The latest time of an accepted call, 0 before the first.
     pub fn latest(&self) -> u32
-        ensures { result ≡ (state_on B.Board self.now).latest }
+        ensures { result ≡ (state_of B.Board self.now).latest }
     {
         self.latest
     }
 
     // The number of cores of the table.
     fn cores(&self) -> u32
-        ensures is { result ≡ (state_on B.Board self.now).plan.cores }
+        ensures is { result ≡ (state_of B.Board self.now).plan.cores }
         ensures few { result ≤ 8 }
     {
         u32::from(self.board.table().cores())
@@ -71,8 +71,8 @@ impl<B: Board, R: Rule> Frame<B, R> {
     // The core's next task; none when it is over.
     #[tactic(auto, using(crate::proofs::Parts::left_named, crate::proofs::Parts::within_rows))]
     fn next_task(&self, core: u32) -> Option<u16>
-        ensures is { let s = state_on B.Board self.now in result ≡ (if is_over (step_of s.progress core) then None else Some (next_of s core)) }
-        ensures within { Within (length (state_on B.Board self.now).plan.rows) result }
+        ensures is { let s = state_of B.Board self.now in result ≡ (if is_over (step_of s.progress core) then None else Some (next_of s core)) }
+        ensures within { Within (length (state_of B.Board self.now).plan.rows) result }
     {
         if self.board.core(core).step.is_over() {
             None
@@ -83,7 +83,7 @@ impl<B: Board, R: Rule> Frame<B, R> {
 
     // The row of the core's next task; a blank one if none is left.
     fn next_row(&self, core: u32) -> Row
-        ensures is { result ≡ next_row (state_on B.Board self.now) core }
+        ensures is { result ≡ next_row (state_of B.Board self.now) core }
         ensures soon { result.start < 268435456 }
         ensures small { result.claim < 2097152 }
     {
@@ -94,14 +94,14 @@ impl<B: Board, R: Rule> Frame<B, R> {
 
     // The records of the table's tasks.
     fn table_records(&self) -> &[Record]
-        ensures { result.now ≡ (state_on B.Board self.now).records }
+        ensures { result.now ≡ (state_of B.Board self.now).records }
     {
         &self.records[..usize::from(self.board.table().tasks())]
     }
 
     // Refuses a core that the table lacks.
     fn check_core(&self, core: u32) -> Result<(), Refusal>
-        ensures { result ≡ (if nat_lt core (state_on B.Board self.now).plan.cores then Ok tt else Err NoSuchCore) }
+        ensures { result ≡ (if nat_lt core (state_of B.Board self.now).plan.cores then Ok tt else Err NoSuchCore) }
     {
         if core < self.cores() {
             Ok(())
@@ -112,7 +112,7 @@ impl<B: Board, R: Rule> Frame<B, R> {
 
     // Refuses a time that a call may not carry.
     fn check_time(&self, time: u32) -> Result<(), Refusal>
-        ensures { result ≡ (if timely (state_on B.Board self.now) time then Ok tt else Err BadTime) }
+        ensures { result ≡ (if timely (state_of B.Board self.now) time then Ok tt else Err BadTime) }
     {
         if self.latest <= time && time <= LAST_TICK {
             Ok(())

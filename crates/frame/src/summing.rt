@@ -1,7 +1,7 @@
 ghost use Rattle.std.specs.Prelude.{◌≡◌, ◌≤◌, if◌then◌else◌, Some, None, slice_index_or};
 ghost use Rattle.runs.specs.Records.{fresh};
 ghost use Rattle.runs.specs.Calls.{next_of, next_row, not_over, at_large, lowest_start, slack, reserve, loose_count, question, sums};
-ghost use Rattle.frame.specs.View.{state_on, Soon};
+ghost use Rattle.frame.specs.View.{state_of, Soon};
 
 use crate::candidate::Candidate;
 use crate::{Frame, LAST_TICK};
@@ -15,7 +15,7 @@ use runs::Record;
 impl<B: Board, R: Rule> Frame<B, R> {
     // The record of the task; a fresh one of a task that the table lacks.
     fn record(&self, task: u16) -> Record
-        ensures { result ≡ slice_index_or (state_on B.Board self.now).records task fresh }
+        ensures { result ≡ slice_index_or (state_of B.Board self.now).records task fresh }
     {
         self.table_records()
             .get(usize::from(task))
@@ -25,7 +25,7 @@ impl<B: Board, R: Rule> Frame<B, R> {
 
     // The record of the core's next task; a fresh one if none is left.
     fn next_record(&self, core: u32) -> Record
-        ensures { let s = state_on B.Board self.now in result ≡ slice_index_or s.records (next_of s core) fresh }
+        ensures { let s = state_of B.Board self.now in result ≡ slice_index_or s.records (next_of s core) fresh }
     {
         self.board
             .next(core)
@@ -34,7 +34,7 @@ impl<B: Board, R: Rule> Frame<B, R> {
 
     // Was the core's next task let loose, and has it not ended?
     fn at_large(&self, core: u32) -> bool
-        ensures { result ≡ at_large (state_on B.Board self.now) core }
+        ensures { result ≡ at_large (state_of B.Board self.now) core }
     {
         match self.board.core(core).step {
             Step::Waiting | Step::Over => false,
@@ -45,7 +45,7 @@ impl<B: Board, R: Rule> Frame<B, R> {
 
     // The start of the core's next task, if the core is not over.
     fn next_start(&self, core: u32) -> Option<u32>
-        ensures is { let s = state_on B.Board self.now in result ≡ (if not_over s.progress core then Some (next_row s core).start else None) }
+        ensures is { let s = state_of B.Board self.now in result ≡ (if not_over s.progress core then Some (next_row s core).start else None) }
         ensures soon { Soon result }
     {
         if self.board.core(core).step.is_over() {
@@ -57,7 +57,7 @@ impl<B: Board, R: Rule> Frame<B, R> {
 
     // The smallest start among the next tasks of the cores that are not over.
     fn lowest_start(&self) -> Option<u32>
-        ensures is { result ≡ lowest_start (state_on B.Board self.now) }
+        ensures is { result ≡ lowest_start (state_of B.Board self.now) }
         ensures soon { Soon result }
     {
         (0..self.cores()).filter_map(|k| self.next_start(k)).min()
@@ -65,7 +65,7 @@ impl<B: Board, R: Rule> Frame<B, R> {
 
     // The claims of the tasks let loose and not ended.
     fn reserve(&self) -> u32
-        ensures { result ≡ reserve (state_on B.Board self.now) }
+        ensures { result ≡ reserve (state_of B.Board self.now) }
     {
         (0..self.cores())
             .filter(|k| self.at_large(*k))
@@ -75,7 +75,7 @@ impl<B: Board, R: Rule> Frame<B, R> {
 
     // How many tasks are let loose and not ended.
     fn loose_count(&self) -> u8
-        ensures { result ≡ loose_count (state_on B.Board self.now) }
+        ensures { result ≡ loose_count (state_of B.Board self.now) }
     {
         (0..self.cores()).filter(|k| self.at_large(*k)).count() as u8
     }
@@ -83,14 +83,14 @@ impl<B: Board, R: Rule> Frame<B, R> {
     // That smallest start less the time; none when all cores are over.
     fn slack(&self, time: u32) -> Option<i32>
         requires { time ≤ LAST_TICK }
-        ensures { result ≡ slack (state_on B.Board self.now) time }
+        ensures { result ≡ slack (state_of B.Board self.now) time }
     {
         self.lowest_start().map(|start| start as i32 - time as i32)
     }
 
     // What the rule is asked about the candidate; nothing when all cores are over.
     pub(crate) fn question(&self, candidate: Candidate) -> Option<Question>
-        ensures { result ≡ question (state_on B.Board self.now) candidate.core candidate.time }
+        ensures { result ≡ question (state_of B.Board self.now) candidate.core candidate.time }
     {
         Some(Question {
             slack: self.slack(candidate.time)?,
@@ -103,7 +103,7 @@ impl<B: Board, R: Rule> Frame<B, R> {
     // Slack, reserve and the number of tasks let loose and not ended, at a time that a call may carry.
     // The tuple is a form that the project asks for.
     pub fn sums(&self, time: u32) -> Result<(Option<i32>, u32, u8), Refusal>
-        ensures { result ≡ sums (state_on B.Board self.now) time }
+        ensures { result ≡ sums (state_of B.Board self.now) time }
     {
         self.check_time(time)?;
         Ok((self.slack(time), self.reserve(), self.loose_count()))

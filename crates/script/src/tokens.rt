@@ -3,7 +3,7 @@ ghost use Rattle.std.specs.Prelude.{◌≡◌, ◌≤◌, length};
 ghost use Rattle.script.specs.Grammar.{spaces_off, word_length, digits_value, number, after_word};
 ghost use Rattle.script.specs.Tokens.{TokenOf, NumberOf};
 
-// The next part of a line. A word borrows its bytes from the line.
+// The next part of a line, a form that the project asks for. A word borrows its bytes from the line.
 #[derive(Clone, Copy)]
 pub enum Token<'a> {
     Word(&'a [u8]),

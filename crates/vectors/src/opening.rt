@@ -49,7 +49,7 @@ fn completer(table: &Table, task: u16, core: u32) -> Option<u16>
     table.nth_on(core, table.wait(task, core).saturating_sub(1))
 }
 
-// The cores at which the test holds.
+// The cores at which the test holds: a loop, since a filter and a fold would say it no more plainly.
 fn cores_where<F: Fn(u32) -> bool>(test: F) -> CoreSet
     requires { (k : ℕ) → k < 8 → F.pre test k }
     ensures { (f : ℕ → Bool) → ((k : ℕ) (b : Bool) → k < 8 → F.post test k b → b ≡ f k) → result ≡ set_of f }

@@ -79,6 +79,7 @@ impl Vectors {
         entry(&self.status, core as usize, CoreSet::NONE)
     }
 
+    // What follows differs in the field that is written, which no parameter names; so do `unready` and `withdraw`.
     fn set_ready(&mut self, task: u16, to: CoreSet)
         ensures { self.new ≡ set_ready self.old task to }
     {
@@ -219,7 +220,7 @@ impl Vectors {
         self.ready_of(task).less(self.status_of(core)).less(inputs)
     }
 
-    // The core's task is let loose.
+    // The core's task is let loose: each wait that easing drops, in the order of the definition.
     pub(crate) fn ease(&mut self, links: &Links, core: u32, task: u16, inputs: CoreSet)
         ensures { self.new ≡ ease_linked 8 links.now (dropped self.old core task inputs) self.old core task }
     {

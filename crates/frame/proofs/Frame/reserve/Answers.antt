@@ -6,7 +6,7 @@ use Rattle.std.proofs.lemmas.Iterator.Adapters.{fits_from_length, at_most_from_y
 use Rattle.std.proofs.lemmas.Iterator.Consumers.{YieldsList-at, YieldsList-from_filter, sum_by_from_yields_List}
 use Rattle.std.specs.List.{range_with_len}
 use Rattle.runs.specs.Calls.{at_large, next_row}
-use Rattle.frame.specs.View.{state_on}
+use Rattle.frame.specs.View.{state_of}
 use Rattle.frame.proofs.Adding.{total_as_sum}
 use Rattle.frame.proofs.Frame.reserve.Goals as goal
 
@@ -19,7 +19,7 @@ sum-requires-clause-fits g c =
 
 pub returns : goal.returns
 returns g c =
-    let s = state_on g.B.Board c.args.self.now in
+    let s = state_of g.B.Board c.args.self.now in
     let n = s.plan.cores in
     sum_by_from_yields_List _ _ c.map.result _ c.sum.ensures.ran
     (YieldsList-from_map _ (λ k. (next_row s k).claim)

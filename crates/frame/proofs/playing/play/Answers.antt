@@ -8,7 +8,7 @@ use Rattle.calls.specs.declared.Reply.TheVariants.{Told}
 use Rattle.runs.specs.declared.Event.{Event}
 use Rattle.runs.proofs.Run.{Run}
 use Rattle.runs.proofs.Kept.{promises_kept}
-use Rattle.frame.specs.View.{state_on}
+use Rattle.frame.specs.View.{state_of}
 use Rattle.frame.proofs.playing.play.Goals as goal
 use Rattle.frame.proofs.Calling.{run_filled, calls_filled, played_more}
 
@@ -24,8 +24,8 @@ loop-event-preserved g c =
     let es = c.loop-event.events in
     let i = c.loop-event.event-index in
     let q = c.loop-event.frame.rule in
-    let s = state_on g.B.Board c.loop-event.frame in
-    let after = state_on g.B.Board c.fill.new.self in
+    let s = state_of g.B.Board c.loop-event.frame in
+    let after = state_of g.B.Board c.fill.new.self in
     let x = c.fill.new.event in
     let l : i < length es = omega arith in
     let f = c.fill.ensures in
@@ -38,5 +38,5 @@ loop-event-preserved g c =
 pub returns-clause-promises : goal.returns-clause-promises
 returns-clause-promises g c =
     let p = plan_of c.args.table.now in
-    let run : Run p c.loop-event.events (state_on g.B.Board c.loop-event.frame) = rw (take_all c.loop-event.event-index c.loop-event.events (omega arith)) at c.loop-event.invariant.run in
+    let run : Run p c.loop-event.events (state_of g.B.Board c.loop-event.frame) = rw (take_all c.loop-event.event-index c.loop-event.events (omega arith)) at c.loop-event.invariant.run in
     promises_kept p (table_sound c.args.table.now) run
