@@ -124,13 +124,16 @@ rest_agrees p k e l = cond_both (ltb e (tasks_on p.rows k)) Waiting Over (λ s. 
     (λ h. h) (λ h. eq-eqb _ _ (omega (arith, l, ltb-false e (tasks_on p.rows k) h)))
 
 -- the cores of a board that was opened
+pub opened_at : (p : Plan) (k : ℕ) → k < p.cores → get_or (opened p) k idle ≡ rested p k 0
+opened_at p k l = get_or-map-range_with_len (λ k. rested p k 0) 0 p.cores k k idle l (omega arith)
+
 pub keeps_opened : (p : Plan) → p.cores ≤ 8 → keeps p (opened p) (map (λ k. named (nth_on k 0 0 p.rows)) (range_with_len 0 8)) ≡ true
 keeps_opened p few = keeps_from p (opened p) (map (λ k. named (nth_on k 0 0 p.rows)) (range_with_len 0 8)) (record {
   many = length-map-range_with_len (λ k. rested p k 0) 0 p.cores;
   room = omega (arith, few, length-map-range_with_len (λ k. named (nth_on k 0 0 p.rows)) 0 8);
-  each = λ k l. ap (agrees (tasks_on p.rows k)) (get_or-map-range_with_len (λ k. rested p k 0) 0 p.cores k k idle l (omega arith)) ∙ rest_agrees p k 0 (omega arith);
+  each = λ k l. ap (agrees (tasks_on p.rows k)) (opened_at p k l) ∙ rest_agrees p k 0 (omega arith);
   names = λ k l. get_or-map-range_with_len (λ k. named (nth_on k 0 0 p.rows)) 0 8 k k None (omega arith) (omega arith)
-      ∙ ap (λ (x : Core). named (nth_on k x.ended 0 p.rows)) (sym (get_or-map-range_with_len (λ k. rested p k 0) 0 p.cores k k idle l (omega arith)));
+      ∙ ap (λ (x : Core). named (nth_on k x.ended 0 p.rows)) (sym (opened_at p k l));
 })
 
 pub opened_front : (p : Plan) (cs : List Core) → p.cores ≤ 8 → cs ≡ map (λ k. rested p k 0) (range_with_len 0 8) → take p.cores cs ≡ opened p
