@@ -2,7 +2,7 @@
 use Rattle.std.proofs.Common.{◌≡◌, ℕ, zero, suc, ◌+◌, ◌<◌, ◌≤◌, Bool, true, false, not, ◌&&◌, ◌||◌, eqb, ltb, ◌⊎◌, List, length, set, pos, ◌-ℤ◌, Some, None, Option, sym, refl, ap, ◌∙◌, subst, inl, inr, ⊎_elim, arith}
 use Rattle.std.proofs.lemmas.List.{get_or-set_same, get_or-set_other, set-set}
 use Rattle.std.proofs.lemmas.Int.{ints}
-use Rattle.std.proofs.lemmas.Bool.{cases_lt, cases_eq, both_ways, false≢true, not-true, not-false, not_from_false, eqb-true, ne_eqb, ltb-true, leb-true, leb-false, and_from, and_parts, and_left, and_right, or_cases, or_left, or_right, cond-true, cond_both}
+use Rattle.std.proofs.lemmas.Bool.{cases_lt, cases_eq, both_ways, not-true, not-false, not_from_false, eqb-true, ne_eqb, ltb-true, leb-true, leb-false, and_from, and_parts, and_left, and_right, or_cases, or_left, or_right, cond-true, cond_both}
 use Rattle.table.specs.Below.{all_below}
 use Rattle.table.specs.Sets.{has}
 use Rattle.table.specs.Rows.{Plan, row, on, wait, nth_on}
