@@ -106,7 +106,7 @@ impl CoreRow {
 
     // Moves the next task to another step.
     pub(crate) fn move_to(&mut self, step: Step)
-        ensures { self.new ≡ record { core = record { ended = self.old.core.ended; step = step }; next = self.old.next } }
+        ensures { self.new ≡ record self.old { core = record self.old.core { step = step } } }
     {
         self.core.step = step;
     }

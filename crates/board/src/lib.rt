@@ -1,3 +1,4 @@
+// The boards: how far the cores of a table have come, and which next tasks are clear. One board is here, over counts.
 #![tactic(auto)]
 
 ghost use Rattle.std.specs.Prelude.{◌≡◌, ℕ, ◌<◌, Bool, true, false, List, slice_index_or};

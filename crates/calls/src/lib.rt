@@ -4,6 +4,7 @@
 ghost use Rattle.std.specs.Prelude.{◌≡◌, Some};
 ghost use Rattle.calls.specs.Words.{word_of, task_of, number_of, answer_line, refusal_line, line_of, told, noted};
 
+use std::error::Error;
 use std::fmt;
 
 // What a core tells the frame, and when, in ticks from the frame's start.
@@ -31,7 +32,7 @@ pub enum Answer {
 }
 
 impl Answer {
-    // The first word of the answer's line.
+    // The first word of the answer's line, as the form of the replies has it: a match says each.
     pub fn word(self) -> &'static str
         ensures { result.now ≡ word_of self }
     {
@@ -44,7 +45,7 @@ impl Answer {
         }
     }
 
-    // The task that the answer is about, if any.
+    // The task that the answer is about, if any: a match says which answers carry one.
     pub fn task(self) -> Option<u16>
         ensures { result ≡ task_of self }
     {
@@ -73,7 +74,7 @@ pub enum Refusal {
 }
 
 impl Refusal {
-    // The number by which the refusal is told.
+    // The number by which the refusal is told, as the form of the replies has it: a match says each.
     pub fn number(self) -> u8
         ensures { result ≡ number_of self }
     {
@@ -142,6 +143,8 @@ impl fmt::Display for Refusal {
         write!(f, "no {number}")
     }
 }
+
+impl Error for Refusal {}
 
 impl fmt::Display for Reply {
     ghost output = { λ reply. Some (line_of reply) };

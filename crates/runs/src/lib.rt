@@ -39,7 +39,7 @@ pub enum Manner {
 }
 
 impl Manner {
-    // The number by which the manner is told.
+    // The number by which the manner is told, as the form of a record has it: a match says each.
     pub fn number(self) -> u8
         ensures { result ≡ manner_number self }
     {
