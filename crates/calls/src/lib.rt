@@ -32,7 +32,7 @@ pub enum Answer {
 }
 
 impl Answer {
-    // The first word of the answer's line, as the form of the replies has it: a match says each.
+    // The first word of the answer's line. The form of the replies names it by cases, so a match says each.
     pub fn word(self) -> &'static str
         ensures { result.now ≡ word_of self }
     {
@@ -45,7 +45,7 @@ impl Answer {
         }
     }
 
-    // The task that the answer is about, if any: a match says which answers carry one.
+    // The task that the answer is about, if any. The answers that carry one share no field, so a match says which.
     pub fn task(self) -> Option<u16>
         ensures { result ≡ task_of self }
     {
@@ -58,33 +58,27 @@ impl Answer {
     }
 }
 
-// Why a call is refused.
+// Why a call is refused, each with the number by which it is told.
 #[derive(Clone, Copy, PartialEq, Eq, Debug)]
 pub enum Refusal {
     // The table has no such core.
-    NoSuchCore,
+    NoSuchCore = 8,
     // The time is before that of an accepted call, or above 268,435,455.
-    BadTime,
+    BadTime = 9,
     // The core asks while it runs a task.
-    CoreBusy,
+    CoreBusy = 10,
     // The core ends a task that it is not running.
-    NotRunning,
+    NotRunning = 11,
     // The caller's list has no record for some task.
-    ListTooShort,
+    ListTooShort = 12,
 }
 
 impl Refusal {
-    // The number by which the refusal is told, as the form of the replies has it: a match says each.
+    // The number by which the refusal is told.
     pub fn number(self) -> u8
         ensures { result ≡ number_of self }
     {
-        match self {
-            Refusal::NoSuchCore => 8,
-            Refusal::BadTime => 9,
-            Refusal::CoreBusy => 10,
-            Refusal::NotRunning => 11,
-            Refusal::ListTooShort => 12,
-        }
+        self as u8
     }
 }
 
