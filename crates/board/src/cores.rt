@@ -19,6 +19,7 @@ pub enum Step {
     Over,
 }
 
+// Each test of a step has a name, as `Option::is_some` has, so that it can be handed on.
 impl Step {
     // The step of a core whose next task has not been touched.
     fn untouched(next: Option<u16>) -> Step
@@ -30,7 +31,6 @@ impl Step {
         }
     }
 
-    // Each test has a name, as `Option::is_some` has, which may be handed on.
     pub fn is_waiting(self) -> bool
         ensures { result ≡ is_waiting self }
     {
