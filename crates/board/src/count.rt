@@ -101,7 +101,7 @@ impl Board for CountBoard {
         self.progress.next(core)
     }
 
-    // This and `easable` ask for another step and another test: a helper over two closures would be no plainer.
+    // `clear` and `easable` differ in the step and in the test: a helper over two closures would be no plainer.
     fn clear(&self, core: u32) -> bool {
         let step = self.progress.core(core).step;
         let next = self.progress.next(core);
