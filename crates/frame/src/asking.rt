@@ -2,7 +2,7 @@ ghost use Rattle.std.specs.Prelude.{◌≡◌, ◌<◌, true, is_err, if◌then�
 ghost use Rattle.board.specs.Meaning.{clear, easable};
 ghost use Rattle.calls.specs.Words.{told};
 ghost use Rattle.calls.specs.declared.Reply.TheVariants.{Told};
-ghost use Rattle.runs.specs.Calls.{next_of, timely, question, says_to, moved_by, rule_after, outcome, answered, starting, go_on, ease_or_hold, ask};
+ghost use Rattle.runs.specs.Calls.{next_of, timely, question, says_to, moved_by, rule_after, outcome, starting, go_on, ease_or_hold, ask};
 ghost use Rattle.frame.specs.View.{state_of};
 
 use crate::Frame;
