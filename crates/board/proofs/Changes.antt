@@ -124,13 +124,16 @@ rest_agrees p k e l = cond_both (ltb e (tasks_on p.rows k)) Waiting Over (λ s. 
     (λ h. h) (λ h. eq-eqb _ _ (omega (arith, l, ltb-false e (tasks_on p.rows k) h)))
 
 -- the cores of a board that was opened
+pub opened_at : (p : Plan) (k : ℕ) → k < p.cores → get_or (opened p) k idle ≡ rested p k 0
+opened_at p k l = get_or-map-range_with_len (λ k. rested p k 0) 0 p.cores k k idle l (omega arith)
+
 pub keeps_opened : (p : Plan) → p.cores ≤ 8 → keeps p (opened p) (map (λ k. named (nth_on k 0 0 p.rows)) (range_with_len 0 8)) ≡ true
 keeps_opened p few = keeps_from p (opened p) (map (λ k. named (nth_on k 0 0 p.rows)) (range_with_len 0 8)) (record {
   many = length-map-range_with_len (λ k. rested p k 0) 0 p.cores;
   room = omega (arith, few, length-map-range_with_len (λ k. named (nth_on k 0 0 p.rows)) 0 8);
-  each = λ k l. ap (agrees (tasks_on p.rows k)) (get_or-map-range_with_len (λ k. rested p k 0) 0 p.cores k k idle l (omega arith)) ∙ rest_agrees p k 0 (omega arith);
+  each = λ k l. ap (agrees (tasks_on p.rows k)) (opened_at p k l) ∙ rest_agrees p k 0 (omega arith);
   names = λ k l. get_or-map-range_with_len (λ k. named (nth_on k 0 0 p.rows)) 0 8 k k None (omega arith) (omega arith)
-      ∙ ap (λ (x : Core). named (nth_on k x.ended 0 p.rows)) (sym (get_or-map-range_with_len (λ k. rested p k 0) 0 p.cores k k idle l (omega arith)));
+      ∙ ap (λ (x : Core). named (nth_on k x.ended 0 p.rows)) (sym (opened_at p k l));
 })
 
 pub opened_front : (p : Plan) (cs : List Core) → p.cores ≤ 8 → cs ≡ map (λ k. rested p k 0) (range_with_len 0 8) → take p.cores cs ≡ opened p
@@ -146,15 +149,15 @@ module _ (p : Plan) (rows : List CoreRow) (few : p.cores ≤ 8) (e : rows ≡ ma
       ∙ (ap (keeps p (opened p)) (ap nexts_of e ∙ map-map (λ (r : CoreRow). r.next) (row_at_start p) (range_with_len 0 8)) ∙ keeps_opened p few)
 
 -- a task of core k ends, and the one after it is at hand
-module _ (x : Progress) (k : ℕ) (after : Option ℕ) (r : CoreRow) (l : Left x k) (a : after ≡ named (nth_on k (suc (ended_on (progress_at x) k)) 0 (plan_at x).rows))
-    (e : r ≡ record { core = record { ended = suc (get_or x.cores.rows k zeroed_row).core.ended; step = untouched after }; next = after }) where
+module _ (x : Progress) (k : ℕ) (after : Option ℕ) (s : Step) (r : CoreRow) (l : Left x k) (a : after ≡ named (nth_on k (suc (ended_on (progress_at x) k)) 0 (plan_at x).rows))
+    (u : s ≡ untouched after) (e : r.core ≡ record { ended = suc (get_or x.cores.rows k zeroed_row).core.ended; step = s }) where
   pub ends : take (plan_at x).cores (cores_of (set x.cores.rows k r)) ≡ ended_one (plan_at x) (progress_at x) k
-  ends = row_ended x k (untouched after) r l.there (ap untouched a ∙ untouched_rest x.table k (suc (ended_on (progress_at x) k))) (ap (λ (r : CoreRow). r.core) e)
+  ends = row_ended x k s r l.there (u ∙ (ap untouched a ∙ untouched_rest x.table k (suc (ended_on (progress_at x) k)))) e
 
-  pub ends_kept : keeps (plan_at x) (take (plan_at x).cores (cores_of (set x.cores.rows k r))) (nexts_of (set x.cores.rows k r)) ≡ true
-  ends_kept =
+  pub ends_kept : r.next ≡ after → keeps (plan_at x) (take (plan_at x).cores (cores_of (set x.cores.rows k r))) (nexts_of (set x.cores.rows k r)) ≡ true
+  ends_kept n =
       ap (λ (cs : List Core). keeps (plan_at x) cs (nexts_of (set x.cores.rows k r))) ends
-      ∙ (ap (keeps (plan_at x) (ended_one (plan_at x) (progress_at x) k)) (map-set (λ (r : CoreRow). r.next) x.cores.rows k r ∙ ap (set (nexts_of x.cores.rows) k) (ap (λ (r : CoreRow). r.next) e))
+      ∙ (ap (keeps (plan_at x) (ended_one (plan_at x) (progress_at x) k)) (map-set (λ (r : CoreRow). r.next) x.cores.rows k r ∙ ap (set (nexts_of x.cores.rows) k) n)
       ∙ keeps_set (plan_at x) (progress_at x) (nexts_of x.cores.rows) k (rested (plan_at x) k (suc (ended_on (progress_at x) k))) after x.ok l.there
       (rest_agrees (plan_at x) k (suc (ended_on (progress_at x) k)) (omega (arith, l.left))) a)
 

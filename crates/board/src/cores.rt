@@ -19,6 +19,7 @@ pub enum Step {
     Over,
 }
 
+// Each test of a step has a name, as `Option::is_some` has, so that it can be handed on.
 impl Step {
     // The step of a core whose next task has not been touched.
     fn untouched(next: Option<u16>) -> Step
@@ -30,7 +31,6 @@ impl Step {
         }
     }
 
-    // Each test has a name, as `Option::is_some` has, which may be handed on.
     pub fn is_waiting(self) -> bool
         ensures { result ≡ is_waiting self }
     {
@@ -106,7 +106,7 @@ impl CoreRow {
 
     // Moves the next task to another step.
     pub(crate) fn move_to(&mut self, step: Step)
-        ensures { self.new ≡ record { core = record { ended = self.old.core.ended; step = step }; next = self.old.next } }
+        ensures { self.new ≡ record self.old { core = record self.old.core { step = step } } }
     {
         self.core.step = step;
     }

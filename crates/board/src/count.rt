@@ -101,6 +101,7 @@ impl Board for CountBoard {
         self.progress.next(core)
     }
 
+    // `clear` and `easable` differ in the step and in the test: a helper over two closures would be no plainer.
     fn clear(&self, core: u32) -> bool {
         let step = self.progress.core(core).step;
         let next = self.progress.next(core);

@@ -1,6 +1,7 @@
+// The boards: how far the cores of a table have come, and which next tasks are clear. One board is here, over counts.
 #![tactic(auto)]
 
-ghost use Rattle.std.specs.Prelude.{◌≡◌, ℕ, ◌<◌, Bool, true, false, List, slice_index_or};
+ghost use Rattle.std.specs.Prelude.{◌≡◌, ℕ, ◌<◌, false, List, slice_index_or};
 ghost use Rattle.table.specs.Lawful.{EmptyOrLawful};
 ghost use Rattle.table.specs.Rows.{Plan, tasks_on};
 ghost use Rattle.table.specs.View.{plan_of};

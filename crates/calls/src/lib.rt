@@ -4,6 +4,7 @@
 ghost use Rattle.std.specs.Prelude.{◌≡◌, Some};
 ghost use Rattle.calls.specs.Words.{word_of, task_of, number_of, answer_line, refusal_line, line_of, told, noted};
 
+use std::error::Error;
 use std::fmt;
 
 // What a core tells the frame, and when, in ticks from the frame's start.
@@ -31,7 +32,7 @@ pub enum Answer {
 }
 
 impl Answer {
-    // The first word of the answer's line.
+    // The first word of the answer's line. The form of the replies names it by cases, so a match says each.
     pub fn word(self) -> &'static str
         ensures { result.now ≡ word_of self }
     {
@@ -44,7 +45,7 @@ impl Answer {
         }
     }
 
-    // The task that the answer is about, if any.
+    // The task that the answer is about, if any. The answers that carry one share no field, so a match says which.
     pub fn task(self) -> Option<u16>
         ensures { result ≡ task_of self }
     {
@@ -57,19 +58,19 @@ impl Answer {
     }
 }
 
-// Why a call is refused.
+// Why a call is refused, each with the number by which it is told.
 #[derive(Clone, Copy, PartialEq, Eq, Debug)]
 pub enum Refusal {
     // The table has no such core.
-    NoSuchCore,
+    NoSuchCore = 8,
     // The time is before that of an accepted call, or above 268,435,455.
-    BadTime,
+    BadTime = 9,
     // The core asks while it runs a task.
-    CoreBusy,
+    CoreBusy = 10,
     // The core ends a task that it is not running.
-    NotRunning,
+    NotRunning = 11,
     // The caller's list has no record for some task.
-    ListTooShort,
+    ListTooShort = 12,
 }
 
 impl Refusal {
@@ -77,13 +78,7 @@ impl Refusal {
     pub fn number(self) -> u8
         ensures { result ≡ number_of self }
     {
-        match self {
-            Refusal::NoSuchCore => 8,
-            Refusal::BadTime => 9,
-            Refusal::CoreBusy => 10,
-            Refusal::NotRunning => 11,
-            Refusal::ListTooShort => 12,
-        }
+        self as u8
     }
 }
 
@@ -142,6 +137,8 @@ impl fmt::Display for Refusal {
         write!(f, "no {number}")
     }
 }
+
+impl Error for Refusal {}
 
 impl fmt::Display for Reply {
     ghost output = { λ reply. Some (line_of reply) };

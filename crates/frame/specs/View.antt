@@ -1,5 +1,5 @@
 -- What a frame value stands for.
-use Rattle.std.specs.Prelude.{ℕ, ◌<◌, List, length, take, Some, None, Option}
+use Rattle.std.specs.Prelude.{ℕ, ◌<◌, length, take, Some, None, Option}
 use Rattle.board.specs.declared.Board.{Ghosts}
 use Rattle.calls.specs.declared.Call.{Call}
 use Rattle.runs.specs.Calls.{State}

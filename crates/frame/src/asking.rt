@@ -2,7 +2,7 @@ ghost use Rattle.std.specs.Prelude.{◌≡◌, ◌<◌, true, is_err, if◌then�
 ghost use Rattle.board.specs.Meaning.{clear, easable};
 ghost use Rattle.calls.specs.Words.{told};
 ghost use Rattle.calls.specs.declared.Reply.TheVariants.{Told};
-ghost use Rattle.runs.specs.Calls.{next_of, timely, question, says_to, moved_by, rule_after, outcome, answered, starting, go_on, ease_or_hold, ask};
+ghost use Rattle.runs.specs.Calls.{next_of, timely, question, says_to, moved_by, rule_after, outcome, starting, go_on, ease_or_hold, ask};
 ghost use Rattle.frame.specs.View.{state_of};
 
 use crate::Frame;
@@ -25,6 +25,7 @@ impl<B: Board, R: Rule> Frame<B, R> {
     }
 
     // Starts the task on its core, which is clear, and notes it.
+    // The clause `rule`, as in `go`, `close` and `finish`: `state_of` tells of all of a frame but its rule.
     #[tactic(auto, using(board::specs::Keeping::take_set_in))]
     fn begin(&mut self, candidate: Candidate, manner: Manner)
         requires { let s = state_of B.Board self.old in clear s.plan s.progress candidate.core ≡ true }
@@ -40,7 +41,7 @@ impl<B: Board, R: Rule> Frame<B, R> {
         };
     }
 
-    // The same, in turn or loose as the core's step says.
+    // Starts the task on its core, which is clear: in turn or loose, as the core's step says.
     fn go(&mut self, candidate: Candidate) -> Answer
         requires { let s = state_of B.Board self.old in clear s.plan s.progress candidate.core ≡ true }
         ensures outcome { outcome (Told result) (state_of B.Board self.new) ≡ go_on (state_of B.Board self.old) candidate.core candidate.task candidate.time }
@@ -55,15 +56,6 @@ impl<B: Board, R: Rule> Frame<B, R> {
         }
     }
 
-    // Makes the time the latest and gives the answer, with which no task starts.
-    fn note(&mut self, time: u32, answer: Answer) -> Answer
-        ensures outcome { let s = state_of B.Board self.old in outcome (Told result) (state_of B.Board self.new) ≡ answered s time s.progress answer }
-        ensures rule { self.new.rule ≡ self.old.rule }
-    {
-        self.latest = time;
-        answer
-    }
-
     // What an ask comes to where the core's next task is not clear.
     fn ease_or_hold(&mut self, candidate: Candidate) -> Answer
         requires { candidate.task ≡ next_of (state_of B.Board self.old) candidate.core }
@@ -76,12 +68,14 @@ impl<B: Board, R: Rule> Frame<B, R> {
             if self.board.clear(core) {
                 return self.go(candidate);
             }
-            return self.note(time, Answer::Data(task));
+            self.latest = time;
+            return Answer::Data(task);
         }
+        self.latest = time;
         if self.board.core(core).step.is_loose() {
-            self.note(time, Answer::Data(task))
+            Answer::Data(task)
         } else {
-            self.note(time, Answer::Hold(task))
+            Answer::Hold(task)
         }
     }
 
@@ -97,7 +91,8 @@ impl<B: Board, R: Rule> Frame<B, R> {
             return Err(Refusal::CoreBusy);
         }
         let Some(task) = self.next_task(core) else {
-            return Ok(self.note(time, Answer::Over));
+            self.latest = time;
+            return Ok(Answer::Over);
         };
         let candidate = Candidate { core, task, time };
         if self.board.clear(core) {

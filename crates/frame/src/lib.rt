@@ -33,7 +33,8 @@ pub struct Frame<B: Board, R: Rule> {
     board: B,
     rule: R,
     latest: u32,
-    // Of these, the first count, as many as the table has tasks: a library crate has no heap for just so many.
+    // Of these, the first count, as many as the table has tasks. An `ArrayVec` of just those would take as much memory,
+    // and an invariant that ties its length to the board's table.
     records: [Record; 384],
 }
 
@@ -82,6 +83,7 @@ impl<B: Board, R: Rule> Frame<B, R> {
     }
 
     // The row of the core's next task; a blank one if none is left.
+    // `soon` and `small` are what a table says of any row: by them slack and reserve do not overflow.
     fn next_row(&self, core: u32) -> Row
         ensures is { result ≡ next_row (state_of B.Board self.now) core }
         ensures soon { result.start < 268435456 }

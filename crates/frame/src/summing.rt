@@ -44,6 +44,7 @@ impl<B: Board, R: Rule> Frame<B, R> {
     }
 
     // The start of the core's next task, if the core is not over.
+    // `soon`, as in `lowest_start`: by it `slack` has an `i32` for the difference.
     fn next_start(&self, core: u32) -> Option<u32>
         ensures is { let s = state_of B.Board self.now in result ≡ (if not_over s.progress core then Some (next_row s core).start else None) }
         ensures soon { Soon result }

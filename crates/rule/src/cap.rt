@@ -23,7 +23,7 @@ impl<R: Rule> Capped<R> {
 impl<R: Rule> Rule for Capped<R> {
     ghost says = { λ x. capped x.cap (R.Rule.says x.below) };
 
-    ghost after = { λ x q. cond (ltb q.loose x.cap) (record { cap = x.cap; below = R.Rule.after x.below q }) x };
+    ghost after = { λ x q. cond (ltb q.loose x.cap) (record x { below = R.Rule.after x.below q }) x };
 
     ghost covered = { Prim.search rules };
 

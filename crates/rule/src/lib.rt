@@ -1,3 +1,4 @@
+// The rules: whether a task may go before its turn. Two basic ones, and one that caps how many are loose.
 #![tactic(auto)]
 
 ghost use Rattle.std.specs.Prelude.{Bool, ◌≡◌};

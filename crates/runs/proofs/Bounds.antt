@@ -8,6 +8,7 @@ use Rattle.board.specs.Meaning.{idle, step_of}
 use Rattle.board.specs.declared.cores.Core.{Core}
 use Rattle.board.specs.declared.cores.Step.{Step}
 use Rattle.board.specs.declared.cores.Step.TheVariants.{Waiting, Loose as LooseStep, Running, Over as OverStep}
+use Rattle.board.specs.Keeping.{pending_left, running_left}
 use Rattle.runs.specs.declared.Record.{Record}
 use Rattle.runs.specs.declared.Manner.{Manner}
 use Rattle.runs.specs.declared.Event.{Event}
@@ -17,7 +18,7 @@ use Rattle.runs.specs.Calls.{State, next_of, next_row, at_large, reserve}
 use Rattle.runs.specs.Log.{starts, loosens, let_loose, runs}
 use Rattle.runs.specs.Plant.{Move, call, tick, held_up, pays, time, log_of, left, purse}
 use Rattle.runs.proofs.Agree.{loosed, Agree, with_core}
-use Rattle.runs.proofs.Ways.{Open, Room, pending_not, running_not, opens}
+use Rattle.runs.proofs.Ways.{Open, Room, opens}
 use Rattle.runs.proofs.Totals.{total_le, total_more}
 
 -- no task has more left than its span, nor more in its purse than its claim
@@ -78,9 +79,9 @@ room_bounds {s} k ms g room =
     let q = purses_reserve s ms in
     record {
       run = λ j l r.
-          let o = opens j g l (running_not _ r) in
-          omega (arith, q, room j l (ap not (running_not _ r)), left_le s.plan (next_of s j) ms, g.ordered.spans (next_of s j) o.at.task);
-      wait = λ j l w. omega (arith, q, room j l (ap not (pending_not _ w).1));
+          let o = opens j g l (running_left _ r) in
+          omega (arith, q, room j l (ap not (running_left _ r)), left_le s.plan (next_of s j) ms, g.ordered.spans (next_of s j) o.at.task);
+      wait = λ j l w. omega (arith, q, room j l (ap not (pending_left _ w)));
     }
 
 -- what the next task of core j adds to the purses, and its bounds while it runs and before, by the core's row
@@ -139,7 +140,7 @@ module _ {s : State} (ms : List Move) (g : Agree (log_of ms) s) (k : ℕ) (withi
         run = λ j l. ⊎_elim
             (λ d. subst (λ i. RunAt p ms' y i (get_or (set s.progress k c) i idle)) (sym d) (subst (RunAt p ms' y k) (sym here) (new y le).0))
             (λ d. subst (RunAt p ms' y j) (sym (there j d)) (λ r.
-            omega (arith, le, wide.run j l r, cond-false (starts (next_of s j) e) ((row p (next_of s j)).end - (row p (next_of s j)).start) (left p (next_of s j) ms) (others j d (opens j g l (running_not _ r))).1)))
+            omega (arith, le, wide.run j l r, cond-false (starts (next_of s j) e) ((row p (next_of s j)).end - (row p (next_of s j)).start) (left p (next_of s j) ms) (others j d (opens j g l (running_left _ r))).1)))
             (cases_eq j k);
         wait = λ j l. ⊎_elim
             (λ d. subst (λ i. WaitAt p ms' y i (get_or (set s.progress k c) i idle)) (sym d) (subst (WaitAt p ms' y k) (sym here) (new y le).1))

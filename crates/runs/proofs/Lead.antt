@@ -5,10 +5,9 @@ use Rattle.table.specs.Below.{all_below}
 use Rattle.table.specs.Rows.{row, tasks_on}
 use Rattle.table.proofs.Below.{all_at, all_from}
 use Rattle.table.proofs.Places.{before}
-use Rattle.board.specs.Steps.{is_pending, is_running, is_over}
+use Rattle.board.specs.Steps.{is_running, is_over}
 use Rattle.board.specs.Meaning.{ended_on, step_of, met, free_of, clear}
-use Rattle.board.specs.declared.cores.Step.{Step}
-use Rattle.board.specs.declared.cores.Step.TheVariants.{Waiting, Loose as LooseStep, Running, Over as OverStep}
+use Rattle.board.proofs.Steps.{step_left}
 use Rattle.runs.specs.declared.Event.{Event}
 use Rattle.runs.specs.Records.{fresh}
 use Rattle.runs.specs.Calls.{State, next_of, next_row, at_large}
@@ -26,13 +25,6 @@ some_fails (suc n) f h = ⊎_elim (λ e. (n, omega arith, e)) (λ e. let r = som
 -- an open core is not over
 pub open_not : {log : List Event} {s : State} {k : ℕ} → Agree log s → Open s k → is_over (step_of s.progress k) ≡ false
 open_not {k = k} g o = g.over k o.within ∙ lt-leb _ _ (at_below o.at)
-
--- a step that is neither over nor running is pending
-pub step_left : (x : Step) → is_over x ≡ false → is_running x ≡ false → is_pending x ≡ true
-step_left Waiting h r = refl
-step_left LooseStep h r = refl
-step_left Running h r = absurd (both_ways true r refl)
-step_left OverStep h r = absurd (both_ways true h refl)
 
 -- an open core that does not run and has all waits met is clear
 pub met_clear : {log : List Event} {s : State} {k : ℕ} → Agree log s → Open s k → is_running (step_of s.progress k) ≡ false → AllMet s k → clear s.plan s.progress k ≡ true

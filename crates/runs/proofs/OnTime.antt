@@ -6,6 +6,8 @@ use Rattle.table.proofs.Places.{before}
 use Rattle.table.proofs.Ordered.{Ordered}
 use Rattle.board.specs.Steps.{is_pending, is_running}
 use Rattle.board.specs.Meaning.{ended_on, step_of, clear}
+use Rattle.board.specs.Keeping.{pending_left, running_left}
+use Rattle.board.proofs.Steps.{pending_still, step_left}
 use Rattle.calls.specs.declared.Call.TheVariants.{Ask, End}
 use Rattle.runs.specs.declared.Event.{Event}
 use Rattle.runs.specs.Calls.{State, next_of, next_row, at_large, ask, finish}
@@ -15,7 +17,7 @@ use Rattle.runs.specs.Promises.{Task, OnTime}
 use Rattle.runs.proofs.Tasks.{At, at_next, at_task, at_below, same_at, sooner}
 use Rattle.runs.proofs.Logs.{event}
 use Rattle.runs.proofs.Agree.{Agree}
-use Rattle.runs.proofs.Ways.{Open, pending_not, running_not, opens, way, close}
+use Rattle.runs.proofs.Ways.{Open, opens, way, close}
 use Rattle.runs.proofs.Run.{Run}
 use Rattle.runs.proofs.Steps.{agree_run}
 use Rattle.runs.proofs.Order.{Sound, sound_run, run_plan}
@@ -23,7 +25,7 @@ use Rattle.runs.proofs.Progress.{progress_is}
 use Rattle.runs.proofs.Totals.{total_none, total_less}
 use Rattle.runs.proofs.Bounds.{purses, Bounds, Within, part_le}
 use Rattle.runs.proofs.Times.{bounds_ask, bounds_end}
-use Rattle.runs.proofs.Lead.{open_not, step_left, met_clear, lead, runner, running_runs}
+use Rattle.runs.proofs.Lead.{open_not, met_clear, lead, runner, running_runs}
 use Rattle.runs.proofs.Splits.{Last, last}
 
 -- in a tick no task gets more in its purse or more left to do
@@ -53,12 +55,12 @@ pending_spare : {s : State} (ms : List Move) → Agree (log_of ms) s → {i : Ti
 pending_spare {s} ms g ok b k l w =
     let p = s.plan in
     let not_clear : (m : ℕ) → clear p s.progress m ≡ false = λ m. subst (λ cs. clear p cs m ≡ false) (progress_is g) (ok.blocked m) in
-    let found = lead g (suc (next_row s k).start) k (opens k g l (pending_not _ w).1) (omega arith) in
+    let found = lead g (suc (next_row s k).start) k (opens k g l (pending_left _ w)) (omega arith) in
     let m = found.0 in
     let o = found.1.is_open in
     let run : is_running (step_of s.progress m) ≡ true = ⊎_elim (λ x. x) (λ x. ⊎_elim (λ y. y) (λ y. absurd (both_ways _ (not_clear m) (met_clear g o y x))) (cases_Bool (is_running (step_of s.progress m)))) found.1.free in
     ⊎_elim
-    (λ e. absurd (both_ways _ (pending_not _ w).0 (subst (λ i. is_running (step_of s.progress i) ≡ true) e run)))
+    (λ e. absurd (both_ways _ (pending_still _ w) (subst (λ i. is_running (step_of s.progress i) ≡ true) e run)))
     (λ e. omega (arith, e, b.run m o.within run, ok.work (next_of s m) (running_runs m g o run)))
     found.1.sooner
 
@@ -67,7 +69,7 @@ bounds_tick : {s : State} (ms : List Move) → Agree (log_of ms) s → Sound s.p
 bounds_tick {s} ms g q working ok b = record {
   run = λ k l r.
       let t = next_of s k in
-      let works = running_runs k g (opens k g l (running_not _ r)) r in
+      let works = running_runs k g (opens k g l (running_left _ r)) r in
       omega (arith, b.run k l r, ok.work t works, cond-true (runs (log_of ms) t && true) (left s.plan t ms - 1) (left s.plan t ms) (and_from _ _ works refl));
   wait = λ k l w. omega (arith, pending_spare ms g ok b k l w);
 }

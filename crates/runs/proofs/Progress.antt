@@ -3,13 +3,14 @@ use Rattle.std.proofs.Common.{◌≡◌, ℕ, zero, suc, ◌+◌, ◌<◌, ◌�
 use Rattle.std.proofs.lemmas.List.{ext_get_or, take_all}
 use Rattle.std.proofs.lemmas.List.FromFn.{length-map-range_with_len, get_or-map-range_with_len}
 use Rattle.std.proofs.lemmas.List.Sums.{count_by_more_yes, count_by_more_no}
-use Rattle.std.proofs.lemmas.Bool.{cases_Bool, cases_lt, both_ways, false≢true, eqb-true, and_from, and_left, and_right, cond-true, cond-false}
+use Rattle.std.proofs.lemmas.Bool.{cases_Bool, cases_lt, both_ways, eqb-true, and_from, and_left, and_right, cond-true, cond-false}
 use Rattle.table.specs.Rows.{row, blank, on, nth_on, tasks_on}
 use Rattle.table.proofs.Places.{before}
 use Rattle.board.specs.Steps.{is_running, is_over}
 use Rattle.board.specs.Meaning.{idle, ended_on, step_of}
 use Rattle.board.specs.declared.cores.Step.{Step}
 use Rattle.board.specs.declared.cores.Step.TheVariants.{Waiting, Loose as LooseStep, Running, Over as OverStep}
+use Rattle.board.proofs.Steps.{over_is}
 use Rattle.runs.specs.declared.Manner.{Manner}
 use Rattle.runs.specs.declared.Event.{Event}
 use Rattle.runs.specs.Records.{fresh}
@@ -64,12 +65,6 @@ shows Waiting m h = refl
 shows LooseStep m h = refl
 shows Running m h = refl
 shows OverStep m h = absurd (both_ways _ h refl)
-
-over_is : (x : Step) → is_over x ≡ true → x ≡ OverStep
-over_is Waiting h = absurd (false≢true h)
-over_is LooseStep h = absurd (false≢true h)
-over_is Running h = absurd (false≢true h)
-over_is OverStep h = refl
 
 -- the log and the frame have the same step for each core
 step_shown : {log : List Event} {s : State} (k : ℕ) → Agree log s → k < s.plan.cores → step_by s.plan log k ≡ step_of s.progress k

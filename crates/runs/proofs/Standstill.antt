@@ -8,6 +8,7 @@ use Rattle.table.proofs.Places.{before, count_yes, count_no}
 use Rattle.table.proofs.Ordered.{Ordered}
 use Rattle.board.specs.Steps.{is_running}
 use Rattle.board.specs.Meaning.{ended_on, step_of, clear}
+use Rattle.board.specs.Keeping.{running_left}
 use Rattle.calls.specs.declared.Call.{Call}
 use Rattle.calls.specs.declared.Call.TheVariants.{Ask, End}
 use Rattle.runs.specs.declared.Event.{Event}
@@ -17,7 +18,7 @@ use Rattle.runs.specs.Promises.{Task, Timely, AllAccepted, SomeStarts, Stalled, 
 use Rattle.runs.proofs.Tasks.{at_next, at_task, at_below}
 use Rattle.runs.proofs.Logs.{event, keeps, latest_push}
 use Rattle.runs.proofs.Agree.{Agree}
-use Rattle.runs.proofs.Ways.{Open, AllMet, Way, running_not, opens, way}
+use Rattle.runs.proofs.Ways.{Open, AllMet, Way, opens, way}
 use Rattle.runs.proofs.Run.{Run}
 use Rattle.runs.proofs.Steps.{agree_run}
 use Rattle.runs.proofs.Order.{run_plan}
@@ -67,7 +68,7 @@ Idle p log k = (t : ℕ) → Task p t → (row p t).core ≡ k → runs log t �
 -- such a core does not run
 idle_step : {log : List Event} {s : State} {k : ℕ} → Agree log s → Idle s.plan log k → k < s.plan.cores → is_running (step_of s.progress k) ≡ false
 idle_step {log} {s} {k} g idle l = ⊎_elim
-    (λ r. let o = opens k g l (running_not _ r) in absurd (both_ways _ (idle (next_of s k) o.at.task o.at.core) (running_runs k g o r)))
+    (λ r. let o = opens k g l (running_left _ r) in absurd (both_ways _ (idle (next_of s k) o.at.task o.at.core) (running_runs k g o r)))
     (λ r. r) (cases_Bool (is_running (step_of s.progress k)))
 
 -- what an ask to an idle core does

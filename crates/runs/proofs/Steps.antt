@@ -2,15 +2,17 @@
 use Rattle.std.proofs.Common.{◌≡◌, ℕ, suc, ◌<◌, ◌≤◌, true, false, ◌||◌, eqb, ltb, leb, ◌⊎◌, List, [], ◌∷◌, ◌++◌, length, get_or, set, sym, refl, ap, ◌∙◌, subst, inl, inr, ⊎_elim, arith}
 use Rattle.std.proofs.Math.Bool.{or-false, and-false}
 use Rattle.std.proofs.lemmas.List.{get_or-set_same, get_or-set_other, length-set, length-replicate}
-use Rattle.std.proofs.lemmas.List.FromFn.{length-map-range_with_len, get_or-map-range_with_len}
+use Rattle.std.proofs.lemmas.List.FromFn.{length-map-range_with_len}
 use Rattle.std.proofs.lemmas.Bool.{cases_lt, cases_eq, eqb-false, eq-eqb, ltb-true, ltb-false, le-leb, lt-leb, and_from, and_left, or_from, or_left, cond_both}
 use Rattle.table.specs.Rows.{Plan, tasks_on}
 use Rattle.table.proofs.Ordered.{Ordered}
 use Rattle.board.specs.Steps.{is_loose, is_running, is_over}
-use Rattle.board.specs.Meaning.{idle, ended_on, step_of, rest, rested, opened}
+use Rattle.board.specs.Meaning.{idle, ended_on, step_of, rest, rested}
 use Rattle.board.specs.declared.cores.Core.{Core}
 use Rattle.board.specs.declared.cores.Step.{Step}
 use Rattle.board.specs.declared.cores.Step.TheVariants.{Waiting, Loose as LooseStep, Running, Over as OverStep}
+use Rattle.board.proofs.Steps.{waiting_is}
+use Rattle.board.proofs.Changes.{opened_at}
 use Rattle.calls.specs.declared.Answer.{Answer}
 use Rattle.calls.specs.declared.Answer.TheVariants.{Over, Go, Loose, Data, Hold}
 use Rattle.calls.specs.declared.Refusal.{Refusal}
@@ -27,7 +29,7 @@ use Rattle.runs.specs.Log.{goes, goes_loose, frees, names, starts, loosens, ends
 use Rattle.runs.proofs.Tasks.{At, at_below, same_at, apart}
 use Rattle.runs.proofs.Logs.{event, keeps, adds, latest_push}
 use Rattle.runs.proofs.Agree.{loosed, Stands, Agree, stay, with_core, moved}
-use Rattle.runs.proofs.Ways.{Open, Way, waiting_not, way, Close, close}
+use Rattle.runs.proofs.Ways.{Open, Way, way, Close, close}
 use Rattle.runs.proofs.Run.{Run}
 
 -- a task is the next of core k, or is another
@@ -197,17 +199,17 @@ module _ {log : List Event} {s : State} (g : Agree log s) (k time : ℕ) where
   agree_ask _ (Way.again o c h) = agree_again o h
   agree_ask _ (Way.goes o w a) =
       let e = event (Ask k time) (Told (Go (next_of s k))) in
-      let d = waiting_not _ w in
+      let d = waiting_is _ w in
       agree_start o InTurn (Go (next_of s k)) (λ t h. (or-false _ ∙ h, refl)) (adds (starts (next_of s k)) log e (or-false _ ∙ eq-eqb (next_of s k) (next_of s k) refl))
-      (keeps (loosens (next_of s k)) log e (((g.each k _ _ o.at).now refl).2 ∙ quiet_loosed (step_of s.progress k) _ d.0 d.2) refl)
+      (keeps (loosens (next_of s k)) log e (((g.each k _ _ o.at).now refl).2 ∙ quiet_loosed (step_of s.progress k) _ (ap is_running d) (ap is_loose d)) refl)
   agree_ask _ (Way.looses o h a) =
       let e = event (Ask k time) (Told (Loose (next_of s k))) in
       agree_start o WentLoose (Loose (next_of s k)) (λ t h. (h, h)) (adds (starts (next_of s k)) log e (eq-eqb _ _ refl)) (adds (loosens (next_of s k)) log e (eq-eqb _ _ refl))
   agree_ask _ (Way.eases o w c room) =
       let e = event (Ask k time) (Told (Data (next_of s k))) in
-      let d = waiting_not _ w in
+      let d = waiting_is _ w in
       agree_step o LooseStep (get_or s.records (next_of s k) fresh).manner s.records (Data (next_of s k)) refl refl (λ t h. refl) refl (λ t h. (refl, h))
-      (keeps (starts (next_of s k)) log e (((g.each k _ _ o.at).now refl).1 ∙ d.0) refl) (adds (loosens (next_of s k)) log e (eq-eqb _ _ refl))
+      (keeps (starts (next_of s k)) log e (((g.each k _ _ o.at).now refl).1 ∙ ap is_running d) refl) (adds (loosens (next_of s k)) log e (eq-eqb _ _ refl))
   agree_ask _ (Way.eases_goes o w c room a) =
       let e = event (Ask k time) (Told (Loose (next_of s k))) in
       agree_start o WentLoose (Loose (next_of s k)) (λ t h. (h, h)) (adds (starts (next_of s k)) log e (eq-eqb _ _ refl)) (adds (loosens (next_of s k)) log e (eq-eqb _ _ refl))
@@ -264,10 +266,6 @@ module _ {log : List Event} {s : State} (g : Agree log s) (k time : ℕ) where
             subst (λ m'. Stands (log ++ (e ∷ [])) (get_or s.progress j idle) m' m x) (sym (same x)) (stay (g.each j m x a) e (and_left _ _ b) refl refl))
             (agree_ends o run t is c refl q.0 q.1 (set s.records t r) same);
       }
-
--- the cores of an opened frame
-opened_at : (p : Plan) (j : ℕ) → j < p.cores → get_or (opened p) j idle ≡ rested p j 0
-opened_at p j h = get_or-map-range_with_len (λ k. rested p k 0) 0 p.cores j j idle h (omega arith)
 
 -- an opened frame agrees with the empty log
 agree_open : (p : Plan) → Ordered p → Agree [] (opening p)

@@ -8,6 +8,7 @@ use Rattle.board.specs.Steps.{is_pending, is_over}
 use Rattle.board.specs.Meaning.{idle, ended_on, step_of, rest, rested}
 use Rattle.board.specs.declared.cores.Step.{Step}
 use Rattle.board.specs.declared.cores.Step.TheVariants.{Loose as LooseStep, Running}
+use Rattle.board.specs.Keeping.{pending_left}
 use Rattle.calls.specs.declared.Answer.{Answer}
 use Rattle.calls.specs.declared.Answer.TheVariants.{Go, Loose, Data}
 use Rattle.calls.specs.declared.Reply.TheVariants.{Told, Noted}
@@ -23,7 +24,7 @@ use Rattle.runs.specs.Plant.{Move, call, time, log_of, left, purse}
 use Rattle.runs.proofs.Tasks.{at_next, apart, sooner}
 use Rattle.runs.proofs.Logs.{event}
 use Rattle.runs.proofs.Agree.{loosed, Agree, with_core}
-use Rattle.runs.proofs.Ways.{Open, Way, pending_not, Close}
+use Rattle.runs.proofs.Ways.{Open, Way, Close}
 use Rattle.runs.proofs.Steps.{rest_quiet, rest_over, quiet_loosed, manner_other, manner_same}
 use Rattle.runs.proofs.Totals.{total_le}
 use Rattle.runs.proofs.Bounds.{left_le, purse_le, purses, Bounds, Within, less_to_spare, part_le, purse_kept, room_bounds, core_part, bounds_move}
@@ -108,7 +109,7 @@ module _ {s : State} (ms : List Move) (g : Agree (log_of ms) s) where
       (λ y h. (
         λ r. absurd (both_ways _ q.0 r),
         λ w.
-            let v : is_over (rest p k n) ≡ false = (pending_not _ w).1 in
+            let v : is_over (rest p k n) ≡ false = pending_left _ w in
             let a = at_next p k n (leb-false _ _ (sym (rest_over p k n) ∙ v)) in
             omega (arith, h, b.run k o.within run, sooner g.ordered o.at a (omega arith)),
       ))

@@ -2,7 +2,7 @@
 use Rattle.std.proofs.Common.{◌≡◌, ℕ, zero, suc, ◌+◌, ◌<◌, ◌≤◌, Bool, true, false, not, ◌&&◌, ◌||◌, eqb, ltb, ◌⊎◌, List, length, set, pos, ◌-ℤ◌, Some, None, Option, sym, refl, ap, ◌∙◌, subst, inl, inr, ⊎_elim, arith}
 use Rattle.std.proofs.lemmas.List.{get_or-set_same, get_or-set_other, set-set}
 use Rattle.std.proofs.lemmas.Int.{ints}
-use Rattle.std.proofs.lemmas.Bool.{cases_lt, cases_eq, both_ways, false≢true, not-true, not-false, not_from_false, eqb-true, ne_eqb, ltb-true, leb-true, leb-false, and_from, and_parts, and_left, and_right, or_cases, or_left, or_right, cond-true, cond_both}
+use Rattle.std.proofs.lemmas.Bool.{cases_lt, cases_eq, both_ways, not-true, not-false, not_from_false, eqb-true, ne_eqb, ltb-true, leb-true, leb-false, and_from, and_parts, and_left, and_right, or_cases, or_left, or_right, cond-true, cond_both}
 use Rattle.table.specs.Below.{all_below}
 use Rattle.table.specs.Sets.{has}
 use Rattle.table.specs.Rows.{Plan, row, on, wait, nth_on}
@@ -10,8 +10,9 @@ use Rattle.table.proofs.Below.{all_at}
 use Rattle.board.specs.Steps.{is_waiting, is_loose, is_pending, is_running, is_over}
 use Rattle.board.specs.Meaning.{idle, ended_on, step_of, next, met, in_force, free_of, clear, easable}
 use Rattle.board.specs.declared.cores.Core.{Core}
-use Rattle.board.specs.declared.cores.Step.{Step}
-use Rattle.board.specs.declared.cores.Step.TheVariants.{Waiting, Loose as LooseStep, Running, Over as OverStep}
+use Rattle.board.specs.declared.cores.Step.TheVariants.{Loose as LooseStep, Running}
+use Rattle.board.specs.Keeping.{running_left}
+use Rattle.board.proofs.Asking.{over_pending}
 use Rattle.rule.specs.Law.{Says, Covered}
 use Rattle.calls.specs.declared.Answer.TheVariants.{Over, Go, Loose, Data, Hold}
 use Rattle.calls.specs.declared.Refusal.{Refusal}
@@ -54,31 +55,6 @@ pub data Way (s : State) (k time : ℕ) : Outcome → Type 0 where
       Way s k time (answered s time (let_go s k).progress (Data (next_of s k)))
   eases_goes : Open s k → is_waiting (step_of s.progress k) ≡ true → clear s.plan s.progress k ≡ false → Room s k time → DataMet s k →
       Way s k time (outcome (Told (Loose (next_of s k))) (starting s k (next_of s k) time WentLoose))
-
--- steps exclude one another
-pub waiting_not : (x : Step) → is_waiting x ≡ true → (is_running x ≡ false) × (is_over x ≡ false) × (is_loose x ≡ false)
-waiting_not Waiting e = (refl, refl, refl)
-waiting_not LooseStep e = absurd (false≢true e)
-waiting_not Running e = absurd (false≢true e)
-waiting_not OverStep e = absurd (false≢true e)
-
-pub pending_not : (x : Step) → is_pending x ≡ true → (is_running x ≡ false) × (is_over x ≡ false)
-pending_not Waiting e = (refl, refl)
-pending_not LooseStep e = (refl, refl)
-pending_not Running e = absurd (false≢true e)
-pending_not OverStep e = absurd (false≢true e)
-
-pub running_not : (x : Step) → is_running x ≡ true → is_over x ≡ false
-running_not Waiting e = absurd (false≢true e)
-running_not LooseStep e = absurd (false≢true e)
-running_not Running e = refl
-running_not OverStep e = absurd (false≢true e)
-
-over_not : (x : Step) → is_over x ≡ true → is_pending x ≡ false
-over_not Waiting e = absurd (false≢true e)
-over_not LooseStep e = absurd (false≢true e)
-over_not Running e = absurd (false≢true e)
-over_not OverStep e = refl
 
 -- the next task of a clear core is pending, and no core keeps it from starting
 clear_parts : (p : Plan) (cs : List Core) (k : ℕ) → clear p cs k ≡ true → (is_pending (step_of cs k) ≡ true) × (all_below p.cores (free_of p cs (step_of cs k) (next p cs k)) ≡ true)
@@ -194,7 +170,7 @@ module _ {log : List Event} (says : Says) (law : Covered says) (s : State) (g : 
       cond_both (not (ltb k s.plan.cores)) _ _ (Way s k time) (λ a. refuses NoSuchCore (inl (not-true _ a))) (λ a.
       cond_both (not (timely s time)) _ _ (Way s k time) (λ b. refuses BadTime (inr (inl (not-true _ b)))) (λ b.
       cond_both (is_running (step_of s.progress k)) _ _ (Way s k time) (λ c. refuses CoreBusy (inr (inr c))) (λ c.
-      cond_both (is_over (step_of s.progress k)) _ _ (Way s k time) (λ d. over (and_right _ _ (and_left _ _ (over_not _ d)))) (λ d.
+      cond_both (is_over (step_of s.progress k)) _ _ (Way s k time) (λ d. over (and_right _ _ (and_left _ _ (over_pending _ d)))) (λ d.
       cond_both (clear s.plan s.progress k) _ _ (Way s k time) (λ e. way_go (ltb-true _ _ (not-false _ a)) d e)
       (λ e. way_ease (ltb-true _ _ (not-false _ a)) d e)))))
 
@@ -210,4 +186,4 @@ close s g k t time =
     cond_both (not (timely s time)) _ _ (Close s k t time) (λ b. refuses BadTime) (λ b.
     cond_both (not (runs_on s k t)) _ _ (Close s k t time) (λ c. refuses NotRunning) (λ c.
     let d = and_parts (is_running (step_of s.progress k)) (eqb (next_of s k) t) (not-false _ c) in
-    ends (opens k g (ltb-true _ _ (not-false _ a)) (running_not _ d.0)) d.0 (eqb-true _ _ d.1))))
+    ends (opens k g (ltb-true _ _ (not-false _ a)) (running_left _ d.0)) d.0 (eqb-true _ _ d.1))))

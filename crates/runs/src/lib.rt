@@ -28,14 +28,14 @@ impl Event {
     }
 }
 
-// How a task was started.
+// How a task was started, each with the number by which it is told.
 #[derive(Clone, Copy, PartialEq, Eq, Debug)]
 pub enum Manner {
-    NotStarted,
+    NotStarted = 0,
     // In its turn: the answer was go.
-    InTurn,
+    InTurn = 1,
     // Before its turn: the answer was loose.
-    Loose,
+    Loose = 2,
 }
 
 impl Manner {
@@ -43,11 +43,7 @@ impl Manner {
     pub fn number(self) -> u8
         ensures { result ≡ manner_number self }
     {
-        match self {
-            Manner::NotStarted => 0,
-            Manner::InTurn => 1,
-            Manner::Loose => 2,
-        }
+        self as u8
     }
 
     // The task was started before its turn.
