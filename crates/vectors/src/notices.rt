@@ -69,6 +69,7 @@ impl VectorBoard {
         self.vectors.status_of(core)
     }
 
+    // The next three share a look-up: each asks a test of its own, which a closure would only move away from its name.
     // The core's next task, if the core is clear: exactly when its vectors say so.
     fn clear_task(&self, core: u32) -> Option<u16>
         ensures { result ≡ task_if (vectors_clear (plan_on self.now) (standing_of self.now) core) (plan_on self.now) (standing_of self.now) core }
