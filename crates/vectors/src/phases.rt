@@ -1,4 +1,5 @@
 ghost use Rattle.std.specs.Prelude.{◌≡◌, slice_set};
+ghost use Rattle.std.specs.Fn.{FnOnceReturnsAtMut};
 ghost use Rattle.vectors.specs.Links.{completer_of, following_of, links_at};
 ghost use Rattle.vectors.specs.Linked.{drop_linked, dropped, ease_linked};
 ghost use Rattle.vectors.specs.Phases.{end_vectors, hand_on, notice, noticed, notify_of, ready_of, retarget, set_notify, set_ready, set_status, set_target, start_vectors, status_of, target_of, unready, vectors_at, withdraw};
@@ -80,46 +81,35 @@ impl Vectors {
     }
 
     // Changes the vectors of the task; there is nothing to change if there can be no such task.
-    fn change<F: FnOnce(TaskVectors) -> TaskVectors>(&mut self, task: u16, by: F)
-        requires { F.pre by (vectors_at self.old task) }
-        ensures { (to : TaskVectors) → ((is : TaskVectors) → F.post by (vectors_at self.old task) is → is ≡ to) → self.new ≡ record self.old { tasks = slice_set self.old.tasks task to } }
+    fn change<F: FnOnce(&mut TaskVectors)>(&mut self, task: u16, by: F)
+        requires { F.IsAlwaysCallable by }
+        ensures { (to : TaskVectors) → ((is : TaskVectors) → FnOnceReturnsAtMut F.FnOnce by (vectors_at self.old task) tt is → is ≡ to) → self.new ≡ record self.old { tasks = slice_set self.old.tasks task to } }
     {
-        let vectors = by(self.at(task));
+        let mut vectors = self.at(task);
+        by(&mut vectors);
         put(&mut self.tasks, usize::from(task), vectors);
     }
 
     fn set_ready(&mut self, task: u16, to: CoreSet)
         ensures { self.new ≡ set_ready self.old task to }
     {
-        self.change(
-            task,
-            |vectors| TaskVectors {
-                ready: to,
-                ..vectors
-            },
-        );
+        self.change(task, |vectors| vectors.ready = to);
     }
 
     fn set_notify(&mut self, task: u16, to: CoreSet)
         ensures { self.new ≡ set_notify self.old task to }
     {
-        self.change(
-            task,
-            |vectors| TaskVectors {
-                notify: to,
-                ..vectors
-            },
-        );
+        self.change(task, |vectors| vectors.notify = to);
     }
 
     // Gives the task another target on the core.
     fn set_target(&mut self, task: u16, core: u32, to: u16)
         ensures { self.new ≡ set_target self.old task core to }
     {
-        self.change(task, |mut vectors| {
-            put(&mut vectors.target, core as usize, Some(to));
-            vectors
-        });
+        self.change(
+            task,
+            |vectors| put(&mut vectors.target, core as usize, Some(to)),
+        );
     }
 
     fn set_status(&mut self, core: u32, to: CoreSet)
