@@ -1,6 +1,5 @@
 use Rattle.std.proofs.Common.{◌≡◌, List, refl, ap, ◌∙◌, rules, set}
 use Rattle.vectors.specs.declared.state.TaskVectors.{TaskVectors}
-use Rattle.vectors.specs.declared.state.Vectors.{Vectors}
 use Rattle.vectors.proofs.state.Vectors.change.Goals as goal
 
 pub returns : goal.returns
