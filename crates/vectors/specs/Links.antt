@@ -43,7 +43,7 @@ first_target p x c = first_from (aims p x c) 0 (length p.rows)
 abbrev pub task_links : Plan → ℕ → TaskLinks
 task_links p t = record { completers = map (completer p t) (range_with_len 0 8); following = following p t }
 
--- so for every task
+-- the same for every task that a table can have
 abbrev pub links_of : Plan → Links
 links_of p = record { tasks = map (task_links p) (range_with_len 0 384) }
 
