@@ -1,7 +1,6 @@
 -- An easing keeps the vectors in agreement with the progress.
-use Rattle.std.proofs.Common.{◌≡◌, ℕ, zero, suc, ◌-◌, ◌<◌, ◌≤◌, Bool, true, false, cond, not, ◌&&◌, eqb, ltb, ◌⊎◌, List, length, get_or, Some, None, sym, refl, ap, ◌∙◌, subst, subst₂, inl, inr, ⊎_elim, arith}
-use Rattle.std.proofs.lemmas.Bool.Decides.{nat_tests}
-use Rattle.std.proofs.lemmas.Bool.{ltb-true, lt-ltb, leb-true, leb-false, eq-eqb, ne_eqb, eqb-false, cases_eq, cases_lt, and_parts, and_cases, and_left, not-true, not-false, both_ways, cond_both, cond-false}
+use Rattle.std.proofs.Common.{◌≡◌, ℕ, zero, suc, ◌-◌, ◌<◌, ◌≤◌, Bool, true, false, not, ◌&&◌, eqb, ltb, ◌⊎◌, List, length, get_or, Some, None, sym, refl, ap, ◌∙◌, subst, subst₂, inl, inr, arith}
+use Rattle.std.proofs.lemmas.Bool.{ltb-true, leb-true, leb-false, ne_eqb, eqb-false, cases_lt, and_parts, and_cases, and_left, not-true, not-false, both_ways, cond_both, cond-false}
 use Rattle.std.proofs.lemmas.List.{length-set}
 use Rattle.table.specs.Sets.{has, with, without}
 use Rattle.table.specs.Rows.{Plan, row, named, wait}
@@ -16,6 +15,7 @@ use Rattle.vectors.specs.declared.state.Vectors.{Vectors}
 use Rattle.vectors.proofs.Pair.{Kept, Alike, alike, alike_self, drop_kept_off, drop_kept_on}
 use Rattle.vectors.proofs.Entries.{unready_same, unready_other, unready_keeps, ready_same, ready_other, untold_same, untold_other, untold_keeps, notify-set_ready, target-set_ready, ready-set_notify, target-set_notify, target_same, target_other, target_wide, ready-set_target, notify-set_target}
 use Rattle.table.proofs.Ordered.{Ordered, nth_some, nth_past}
+use Rattle.vectors.proofs.Passing.{passed, passed_before, passed_after, passed_else, passed_none, passed_all, fewer}
 use Rattle.vectors.proofs.Places.{nth, tasks, nth_one, nth_only, following_is}
 use Rattle.vectors.proofs.Agree.{Shaped, Starts, Pair, Agree, waits, bits, waits_rise, waiting_from, easing_each}
 use Rattle.vectors.proofs.Started.{stepped_here, stepped_there, stepped_ended, stepped_left}
@@ -66,14 +66,6 @@ module _ (v : Vectors) (t x y c j : ℕ) where
   unfolding taken
   handed_target r k n = target_other taken x c y r k n ∙ ap (λ z. get_or z k None) (taken_target r)
 
--- cores from m on whose bits are not dropped change nothing
-ease_fewer : (m n : ℕ) (p : Plan) (v : Vectors) (k t : ℕ) → m ≤ n → ((j : ℕ) → m ≤ j → j < n → drops p v k t j ≡ false) → ease_vectors n p v k t ≡ ease_vectors m p v k t
-ease_fewer m zero p v k t l h = let e : zero ≡ m = omega arith in ap (λ i. ease_vectors i p v k t) e
-ease_fewer m (suc n) p v k t l h = ⊎_elim
-    (λ q. cond-false (drops p v k t n) (drop_bit p (ease_vectors n p v k t) k t n) (ease_vectors n p v k t) (h n (omega arith) (omega arith)) ∙ ease_fewer m n p v k t (omega arith) (λ j a b. h j a (omega arith)))
-    (λ q. let e : suc n ≡ m = omega arith in ap (λ i. ease_vectors i p v k t) e)
-    (cases_lt m (suc n))
-
 module _ (p : Plan) (o : Ordered p) (cs : List Core) (v : Vectors) (s : Agree p cs v) (c : ℕ) (hc : c < p.cores) (w : is_waiting (step_of cs c) ≡ true) where
   -- the eased core has a task left
   l : ended_on cs c < tasks p c
@@ -84,24 +76,8 @@ module _ (p : Plan) (o : Ordered p) (cs : List Core) (v : Vectors) (s : Agree p 
   loose = record { ended = ended_on cs c; step = Loose }
 
   -- how core d stands to core j, once the cores below n are gone through
-  seen : ℕ → ℕ → ℕ → Core
-  seen n d j = cond (eqb d c && ltb j n) loose (get_or cs d idle)
-
-  seen_before : (n : ℕ) → seen n c n ≡ get_or cs c idle
-  unfolding seen
-  seen_before n = grind (arith, nat_tests)
-
-  seen_after : (n : ℕ) → seen (suc n) c n ≡ loose
-  unfolding seen
-  seen_after n = grind (arith, nat_tests)
-
-  seen_else : (n d j : ℕ) → (d ≡ c → j ≡ n → ⊥) → seen (suc n) d j ≡ seen n d j
-  unfolding seen
-  seen_else n d j ne = grind (arith, nat_tests)
-
-  seen_none : (d j : ℕ) → seen 0 d j ≡ get_or cs d idle
-  unfolding seen
-  seen_none d j = grind (arith, nat_tests)
+  abbrev seen : ℕ → ℕ → ℕ → Core
+  seen = passed c loose (λ d. get_or cs d idle)
 
   -- the vectors u, once the cores below n are gone through
   record Mid (n : ℕ) (u : Vectors) : Type 0 where
@@ -120,7 +96,7 @@ module _ (p : Plan) (o : Ordered p) (cs : List Core) (v : Vectors) (s : Agree p 
     silent = s.silent;
     beyond = s.beyond;
     beyond_told = s.beyond_told;
-    pairs = λ d j hd hj n. rw (seen_none d j) (s.pairs d j hd hj n);
+    pairs = λ d j hd hj n. rw (passed_none c loose (λ d. get_or cs d idle) d j) (s.pairs d j hd hj n);
   }
 
   -- a change of the pair (c, n) alone: the other pairs stay as they were
@@ -129,7 +105,7 @@ module _ (p : Plan) (o : Ordered p) (cs : List Core) (v : Vectors) (s : Agree p 
       Pair p u' d j (seen (suc n) d j) (ended_on cs j)
   pair_else n u u' m d j off hd hj dj ne a =
       let pr = m.pairs d j hd hj dj in
-      rw (seen_else n d j ne) record {
+      rw (passed_else c loose (λ d. get_or cs d idle) n d j ne) record {
         start = pr.start;
         from = from_later (seen n d j).step (seen n d j).ended pr.start _ _ (ended_on cs j) (ended_on cs j) _ _ (omega arith) (off (seen n d j).ended) pr.from;
         kept = alike (waits p d j) (ended_on cs j) pr.start (bits p u d j) (bits p u' d j) a pr.kept;
@@ -140,13 +116,13 @@ module _ (p : Plan) (o : Ordered p) (cs : List Core) (v : Vectors) (s : Agree p 
     kept_before : (c ≡ n → ⊥) → Kept (waits p c n) (ended_on cs n) (ended_on cs c) (bits p u c n)
     kept_before cn =
         let pr = m.pairs c n hc hn cn in
-        let fr = subst (λ r. Starts p u c n r (ended_on cs n) pr.start) (seen_before n) pr.from in
+        let fr = subst (λ r. Starts p u c n r (ended_on cs n) pr.start) (passed_before c loose (λ d. get_or cs d idle) n) pr.from in
         subst (λ x. Kept (waits p c n) (ended_on cs n) x (bits p u c n)) (waiting_from (step_of cs c) (ended_on cs c) pr.start _ _ (ended_on cs n) _ w fr) pr.kept
 
     -- a wait that is met, or on a data core, stays
     stays_here : (c ≡ n → ⊥) → drops p v c (next p cs c) n ≡ false → Pair p u c n (seen (suc n) c n) (ended_on cs n)
     unfolding loose
-    stays_here cn off = rw (seen_after n) record {
+    stays_here cn off = rw (passed_after c loose (λ d. get_or cs d idle) n) record {
       start = ended_on cs c;
       kept = kept_before cn;
       from = inl (refl, why (and_cases (not (eqb n c)) _ (sym (easing_each p o cs v s c hc w n hn) ∙ off)));
@@ -245,7 +221,7 @@ module _ (p : Plan) (o : Ordered p) (cs : List Core) (v : Vectors) (s : Agree p 
       -- the task after t has none of this wait to take over
       off_here : (suc (ended_on cs c) < tasks p c → has (ready_of u y) n ≡ true) → Pair p (let_go u t x c n) c n (seen (suc n) c n) (ended_on cs n)
       unfolding loose t y W
-      off_here last = rw (seen_after n) record {
+      off_here last = rw (passed_after c loose (λ d. get_or cs d idle) n) record {
         start = suc (ended_on cs c);
         from = inr (refl, no_data, let_go_ready u t x c n t n ∙ unready_same u t n t_below n8);
         kept = drop_kept_off (waits p c n) (waits_rise p o c n) (ended_on cs n) (ended_on cs c) (bits p u c n) (kept_before cn) l unmet last (bits p (let_go u t x c n) c n)
@@ -327,7 +303,7 @@ module _ (p : Plan) (o : Ordered p) (cs : List Core) (v : Vectors) (s : Agree p 
         -- the pair of the eased core and core n
         on_here : Pair p (handed u t x y c n) c n (seen (suc n) c n) (ended_on cs n)
         unfolding loose t y W
-        on_here = rw (seen_after n) record {
+        on_here = rw (passed_after c loose (λ d. get_or cs d idle) n) record {
           start = suc (ended_on cs c);
           from = inr (refl, no_data, ready_t);
           kept = drop_kept_on (waits p c n) (waits_rise p o c n) (ended_on cs n) (ended_on cs c) (bits p u c n) (kept_before cn) sl unmet clear (bits p (handed u t x y c n) c n)
@@ -382,12 +358,8 @@ module _ (p : Plan) (o : Ordered p) (cs : List Core) (v : Vectors) (s : Agree p 
 
   -- the eased core is loose, the others are as they were
   seen_all : (d j : ℕ) → j < p.cores → seen p.cores d j ≡ get_or (stepped cs c Loose) d idle
-  unfolding seen loose
-  seen_all d j h = go (cases_eq d c)
-    where
-      go : ((d ≡ c) ⊎ (d ≡ c → ⊥)) → seen p.cores d j ≡ get_or (stepped cs c Loose) d idle
-      go (inl e) = rw (e, lt-ltb j p.cores h, eq-eqb c c refl) (sym (stepped_here cs c Loose (omega (arith, s.long))))
-      go (inr n) = rw (ne_eqb d c n) (sym (stepped_there cs c Loose (omega (arith, s.long)) d n))
+  unfolding loose
+  seen_all d j h = passed_all c loose (λ d. get_or cs d idle) (λ d. get_or (stepped cs c Loose) d idle) (stepped_here cs c Loose (omega (arith, s.long))) (stepped_there cs c Loose (omega (arith, s.long))) p.cores d j h
 
   -- what the easing of a waiting task leaves
   eases : Agree p (stepped cs c Loose) (ease_vectors p.cores p v c (next p cs c))
@@ -420,5 +392,5 @@ agree_eased p o b s k = cond_both (vectors_easable p b k) _ b (λ (z : Standing)
         let q = and_parts (ltb k p.cores) _ e in
         let r = and_parts (is_waiting (step_of b.progress k)) _ q.1 in
         let all : ease_vectors 8 p b.vectors k t ≡ ease_vectors p.cores p b.vectors k t =
-        ease_fewer p.cores 8 p b.vectors k t o.few (λ j a l. and_left (has (ready_of b.vectors t) j) _ (s.beyond t j a l)) in
+        fewer (λ n. ease_vectors n p b.vectors k t) p.cores 8 o.few (λ j a l. cond-false (drops p b.vectors k t j) _ _ (and_left (has (ready_of b.vectors t) j) _ (s.beyond t j a l))) in
         subst (Agree p (stepped b.progress k Loose)) (sym all) (eases p o b.progress b.vectors s k (ltb-true k p.cores q.0) r.0)

@@ -1,7 +1,6 @@
 -- An end keeps the vectors in agreement with the progress.
-use Rattle.std.proofs.Common.{◌≡◌, ℕ, zero, suc, ◌<◌, ◌≤◌, Bool, true, false, cond, ◌&&◌, eqb, ltb, ◌⊎◌, List, length, get_or, set, Some, None, sym, refl, ap, ◌∙◌, subst, inl, inr, ⊎_elim, arith}
-use Rattle.std.proofs.lemmas.Bool.Decides.{nat_tests}
-use Rattle.std.proofs.lemmas.Bool.{ltb-true, lt-ltb, eq-eqb, ne_eqb, cases_eq, cases_lt, true≢false, both_ways, cond_both, cond-true, cond-false}
+use Rattle.std.proofs.Common.{◌≡◌, ℕ, zero, suc, ◌<◌, ◌≤◌, Bool, true, false, cond, ltb, ◌⊎◌, List, length, get_or, set, Some, None, sym, refl, ap, ◌∙◌, subst, inl, inr, ⊎_elim, arith}
+use Rattle.std.proofs.lemmas.Bool.{ltb-true, cases_eq, cases_lt, true≢false, both_ways, cond_both, cond-true, cond-false}
 use Rattle.std.proofs.lemmas.List.{get_or-set_same, get_or-set_other, length-set, get_or_past}
 use Rattle.table.specs.Sets.{has, with}
 use Rattle.table.specs.Rows.{Plan}
@@ -17,6 +16,7 @@ use Rattle.vectors.specs.declared.state.Vectors.{Vectors}
 use Rattle.vectors.proofs.Pair.{Kept, Told, Alike, alike, alike_self, end_kept_quiet, end_kept_set, end_kept_clear}
 use Rattle.vectors.proofs.Entries.{unready_same, unready_other, unready_keeps, status_same, status_other, notify-set_ready, target-set_ready}
 use Rattle.table.proofs.Ordered.{Ordered}
+use Rattle.vectors.proofs.Passing.{passed, passed_before, passed_after, passed_else, passed_none, passed_all, fewer}
 use Rattle.vectors.proofs.Places.{nth, tasks, nth_one}
 use Rattle.vectors.proofs.Agree.{Shaped, From, Starts, Pair, Agree, waits, bits, waits_rise}
 
@@ -58,34 +58,10 @@ pub rest_left : (b : Bool) → is_over (cond b Waiting Over) ≡ false → b ≡
 rest_left true t = refl
 rest_left false t = sym t
 
--- cores from m on that are not told change nothing
-end_fewer : (m n : ℕ) (v : Vectors) (k x : ℕ) → m ≤ n → ((c : ℕ) → m ≤ c → c < n → has (notify_of v x) c ≡ false) → end_vectors n v k x ≡ end_vectors m v k x
-end_fewer m zero v k x l h = let e : zero ≡ m = omega arith in ap (λ i. end_vectors i v k x) e
-end_fewer m (suc n) v k x l h = ⊎_elim
-    (λ q. cond-false (has (notify_of v x) n) (notice (end_vectors n v k x) k x n) (end_vectors n v k x) (h n (omega arith) (omega arith)) ∙ end_fewer m n v k x (omega arith) (λ c a b. h c a (omega arith)))
-    (λ q. let e : suc n ≡ m = omega arith in ap (λ i. end_vectors i v k x) e)
-    (cases_lt m (suc n))
-
 module _ (p : Plan) (o : Ordered p) (cs : List Core) (v : Vectors) (s : Agree p cs v) (k : ℕ) (hk : k < p.cores) (l : ended_on cs k < tasks p k) where
   -- how many tasks of core j have ended for core c, once the cores below n are told
-  now : ℕ → ℕ → ℕ → ℕ
-  now n c j = cond (eqb j k && ltb c n) (suc (ended_on cs j)) (ended_on cs j)
-
-  now_before : (n : ℕ) → now n n k ≡ ended_on cs k
-  unfolding now
-  now_before n = grind (arith, nat_tests)
-
-  now_after : (n : ℕ) → now (suc n) n k ≡ suc (ended_on cs k)
-  unfolding now
-  now_after n = grind (arith, nat_tests)
-
-  now_else : (n c j : ℕ) → (c ≡ n → j ≡ k → ⊥) → now (suc n) c j ≡ now n c j
-  unfolding now
-  now_else n c j ne = grind (arith, nat_tests)
-
-  now_none : (c j : ℕ) → now 0 c j ≡ ended_on cs j
-  unfolding now
-  now_none c j = grind (arith, nat_tests)
+  abbrev now : ℕ → ℕ → ℕ → ℕ
+  now n c j = passed k (suc (ended_on cs k)) (ended_on cs) n j c
 
   -- the vectors u, once the cores below n are told that task `next k` ended
   record Mid (n : ℕ) (u : Vectors) : Type 0 where
@@ -102,7 +78,7 @@ module _ (p : Plan) (o : Ordered p) (cs : List Core) (v : Vectors) (s : Agree p 
     notify = λ y. refl;
     alone = s.alone;
     beyond = s.beyond;
-    pairs = λ c j hc hj n. rw (now_none c j) (s.pairs c j hc hj n);
+    pairs = λ c j hc hj n. rw (passed_none k (suc (ended_on cs k)) (ended_on cs) j c) (s.pairs c j hc hj n);
   }
 
   -- a change of the pair (n, k) alone: the other pairs stay as they were
@@ -111,7 +87,7 @@ module _ (p : Plan) (o : Ordered p) (cs : List Core) (v : Vectors) (s : Agree p 
       Pair p u' c j (get_or cs c idle) (now (suc n) c j)
   pair_else n u u' m off c j hc hj cj ne a =
       let pr = m.pairs c j hc hj cj in
-      rw (now_else n c j ne) record {
+      rw (passed_else k (suc (ended_on cs k)) (ended_on cs) n j c (λ e q. ne q e)) record {
         start = pr.start;
         from = from_later (step_of cs c) (ended_on cs c) pr.start _ _ (now n c j) (now n c j) _ _ (omega arith) (off c (ended_on cs c) j hj) pr.from;
         kept = alike (waits p c j) (now n c j) pr.start (bits p u c j) (bits p u' c j) a pr.kept;
@@ -122,10 +98,10 @@ module _ (p : Plan) (o : Ordered p) (cs : List Core) (v : Vectors) (s : Agree p 
     quiet_here : has (notify_of v (next p cs k)) n ≡ false → (n ≡ k → ⊥) → Pair p u n k (get_or cs n idle) (now (suc n) n k)
     quiet_here off nk =
         let pr = m.pairs n k hn hk nk in
-        let kept = subst (λ E. Kept (waits p n k) E pr.start (bits p u n k)) (now_before n) pr.kept in
-        rw (now_after n) record {
+        let kept = subst (λ E. Kept (waits p n k) E pr.start (bits p u n k)) (passed_before k (suc (ended_on cs k)) (ended_on cs) n) pr.kept in
+        rw (passed_after k (suc (ended_on cs k)) (ended_on cs) n) record {
           start = pr.start;
-          from = from_later (step_of cs n) (ended_on cs n) pr.start _ _ (now n n k) (suc (ended_on cs k)) _ _ (omega (arith, now_before n)) (λ q. q) pr.from;
+          from = from_later (step_of cs n) (ended_on cs n) pr.start _ _ (now n n k) (suc (ended_on cs k)) _ _ (omega (arith, passed_before k (suc (ended_on cs k)) (ended_on cs) n)) (λ q. q) pr.from;
           kept = end_kept_quiet (waits p n k) (waits_rise p o n k) (ended_on cs k) pr.start (bits p u n k) kept l (ap (λ z. has z n) (m.notify (next p cs k)) ∙ off);
         }
 
@@ -155,9 +131,9 @@ module _ (p : Plan) (o : Ordered p) (cs : List Core) (v : Vectors) (s : Agree p 
       -- the notice clears the target's ready bit
       clear_here : has (status_of u n) k ≡ true → Pair p (unready u (Some x) k) n k (get_or cs n idle) (now (suc n) n k)
       unfolding x
-      clear_here σ = rw (now_after n) record {
+      clear_here σ = rw (passed_after k (suc (ended_on cs k)) (ended_on cs) n) record {
         start = f;
-        from = from_later (step_of cs n) (ended_on cs n) f _ _ (now n n k) (suc (ended_on cs k)) _ _ (omega (arith, now_before n)) (unready_keeps u x k (nth p n (ended_on cs n)) k (omega (arith, o.few))) from;
+        from = from_later (step_of cs n) (ended_on cs n) f _ _ (now n n k) (suc (ended_on cs k)) _ _ (omega (arith, passed_before k (suc (ended_on cs k)) (ended_on cs) n)) (unready_keeps u x k (nth p n (ended_on cs n)) k (omega (arith, o.few))) from;
         kept = end_kept_clear (waits p n k) (waits_rise p o n k) (ended_on cs k) f (bits p u n k) kept t l σ (bits p (unready u (Some x) k) n k)
             (λ i ne hi. unready_other u x k (nth p n i) k (omega (arith, o.few)) (λ e q. ne (nth_one p n n i t.place hi t.within e).1))
             (unready_same u x k x_below (omega (arith, o.few)))
@@ -185,9 +161,9 @@ module _ (p : Plan) (o : Ordered p) (cs : List Core) (v : Vectors) (s : Agree p 
 
       -- the notice sets the status bit
       mark_here : has (status_of u n) k ≡ false → Pair p (marked u n k) n k (get_or cs n idle) (now (suc n) n k)
-      mark_here σ = rw (now_after n) record {
+      mark_here σ = rw (passed_after k (suc (ended_on cs k)) (ended_on cs) n) record {
         start = f;
-        from = from_later (step_of cs n) (ended_on cs n) f _ _ (now n n k) (suc (ended_on cs k)) _ _ (omega (arith, now_before n)) (λ q. q) from;
+        from = from_later (step_of cs n) (ended_on cs n) f _ _ (now n n k) (suc (ended_on cs k)) _ _ (omega (arith, passed_before k (suc (ended_on cs k)) (ended_on cs) n)) (λ q. q) from;
         kept = end_kept_set (waits p n k) (waits_rise p o n k) (ended_on cs k) f (bits p u n k) kept t l σ (bits p (marked u n k) n k)
             (λ i. refl) (status_same u n k (omega (arith, m.shape.status, o.few)) (omega (arith, o.few))) (λ y. refl) (λ y. refl);
       }
@@ -223,7 +199,7 @@ module _ (p : Plan) (o : Ordered p) (cs : List Core) (v : Vectors) (s : Agree p 
         pr = m.pairs n k hn hk nk
 
         kept : Kept (waits p n k) (ended_on cs k) pr.start (bits p u n k)
-        kept = subst (λ E. Kept (waits p n k) E pr.start (bits p u n k)) (now_before n) pr.kept
+        kept = subst (λ E. Kept (waits p n k) E pr.start (bits p u n k)) (passed_before k (suc (ended_on cs k)) (ended_on cs) n) pr.kept
 
         t : Told (waits p n k) pr.start (bits p u n k) (ended_on cs k)
         t = kept.told (ended_on cs k) (omega arith) l (ap (λ z. has z n) (m.notify (next p cs k)) ∙ on)
@@ -248,12 +224,8 @@ module _ (p : Plan) (o : Ordered p) (cs : List Core) (v : Vectors) (s : Agree p 
 
   -- what every core has then been told is the new progress
   now_all : (c j : ℕ) → c < p.cores → now p.cores c j ≡ ended_on (set cs k gone) j
-  unfolding now gone
-  now_all c j h = go (cases_eq j k)
-    where
-      go : ((j ≡ k) ⊎ (j ≡ k → ⊥)) → now p.cores c j ≡ ended_on (set cs k gone) j
-      go (inl e) = rw (e, lt-ltb c p.cores h, eq-eqb k k refl) (sym (ap (λ (r : Core). r.ended) gone_here))
-      go (inr n) = rw (ne_eqb j k n) (sym (ap (λ (r : Core). r.ended) (gone_there j n)))
+  unfolding gone
+  now_all c j h = passed_all k (suc (ended_on cs k)) (ended_on cs) (ended_on (set cs k gone)) (ap (λ (r : Core). r.ended) gone_here) (λ d n. ap (λ (r : Core). r.ended) (gone_there d n)) p.cores j c h
 
   module _ (run : is_running (step_of cs k) ≡ true) where
     -- the waits of the core whose task ended
@@ -311,6 +283,7 @@ agree_finished p o b s k = cond_both (is_running (step_of b.progress k)) _ b (λ
     run : is_running (step_of b.progress k) ≡ true → Agree p (finished p b.progress k) (end_vectors 8 b.vectors k (next p b.progress k))
     run t =
         let hk : k < p.cores = omega (arith, running_core b.progress k t, s.long) in
-        let all : end_vectors 8 b.vectors k x ≡ end_vectors p.cores b.vectors k x = end_fewer p.cores 8 b.vectors k x o.few (s.beyond_told x) in
+        let all : end_vectors 8 b.vectors k x ≡ end_vectors p.cores b.vectors k x =
+        fewer (λ n. end_vectors n b.vectors k x) p.cores 8 o.few (λ c a l. cond-false (has (notify_of b.vectors x) c) _ _ (s.beyond_told x c a l)) in
         subst (λ z. Agree p z (end_vectors 8 b.vectors k x)) (sym (cond-true (is_running (step_of b.progress k)) (ended_one p b.progress k) b.progress t))
         (subst (Agree p (ended_one p b.progress k)) (sym all) (ends p o b.progress b.vectors s k hk (s.left k hk (running_left (step_of b.progress k) t)) t))

@@ -1,4 +1,5 @@
 pub mod Filling
+pub mod Passing
 pub mod Places
 pub mod Pair
 pub mod Entries

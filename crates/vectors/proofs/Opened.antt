@@ -37,7 +37,7 @@ answers f i (suc n) = cond_both (f i) (Some i) (first_from f (suc i) n) (Answers
 -- the task that an answer names
 is_task_some : (x : ℕ) (a : Option ℕ) → is_task x a ≡ true → a ≡ Some x
 is_task_some x None h = absurd (true≢false (sym h))
-is_task_some x (Some y) h = ap Some (sym (eqb-true x y h))
+is_task_some x (Some y) h = ap Some (eqb-true y x h)
 
 -- the wait of place i of core c on core k
 abbrev waited : Plan → ℕ → ℕ → ℕ → ℕ

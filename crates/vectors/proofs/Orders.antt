@@ -1,25 +1,25 @@
 -- What an order leaves of a vector board: the state that it defines, which is again one that orders lead to.
-use Rattle.std.proofs.Common.{◌≡◌, ℕ, ◌<◌, Bool, true, false, cond, ltb, Some, None, sym, refl, ap, ◌∙◌, subst, arith}
+use Rattle.std.proofs.Common.{◌≡◌, ℕ, ◌<◌, Bool, true, false, cond, ltb, List, Some, None, sym, refl, ap, ◌∙◌, subst, arith}
 use mathlib.Core.Logic.{∥∥₁_map}
-use Rattle.std.proofs.lemmas.Bool.{and_parts, cond-true}
+use Rattle.std.proofs.lemmas.Bool.{and_parts, cond-true, cond-false}
 use Rattle.table.specs.Rows.{Plan, row}
 use Rattle.table.specs.declared.rows.CoreSet.{CoreSet}
 use Rattle.table.proofs.Tables.{few_rows, nth_within}
 use Rattle.board.specs.Steps.{is_waiting, is_pending, is_running, is_over}
 use Rattle.board.specs.Standing.{plan_at, progress_at, loosened, launched}
-use Rattle.board.specs.Meaning.{eased, started, finished, step_of, next, opened, stepped}
+use Rattle.board.specs.Meaning.{clear, easable, finished, step_of, next, opened, stepped}
+use Rattle.board.specs.declared.cores.Core.{Core}
 use Rattle.board.specs.declared.cores.Step.TheVariants.{Loose, Running}
 use Rattle.board.specs.declared.progress.Progress.{Progress}
 use Rattle.board.specs.Keeping.{left_at, waiting_left}
 use Rattle.vectors.specs.Links.{links_of}
-use Rattle.vectors.specs.Phases.{Standing, first_vectors, start_vectors, end_vectors, ease_vectors, vectors_clear, vectors_easable, board_eased, board_started, board_finished}
+use Rattle.vectors.specs.Phases.{Standing, first_vectors, start_vectors, end_vectors, ease_vectors, vectors_clear, vectors_easable, board_finished}
 use Rattle.vectors.specs.Linked.{dropped, ease_linked}
 use Rattle.vectors.specs.Reached.{Reached, at_opening, standing, first_standing}
 use Rattle.vectors.specs.View.{plan_on, standing_of, task_if}
 use Rattle.vectors.specs.declared.vector_board.VectorBoard.{VectorBoard}
 use Rattle.vectors.specs.declared.state.Links.{Links}
 use Rattle.vectors.specs.declared.state.Vectors.{Vectors}
-use Rattle.vectors.proofs.Started.{either_progress}
 use Rattle.vectors.proofs.Stands.{clear_means, easable_means, ease_is}
 
 -- a task was named: the answer was yes, and it is the next one; none was named: the answer was no
@@ -35,41 +35,50 @@ none_task false p s k h = refl
 next_small : (b : VectorBoard) (k : ℕ) → is_over (step_of (progress_at b.progress) k) ≡ false → next (plan_on b) (progress_at b.progress) k < 384
 next_small b k h = omega (arith, nth_within k _ (plan_on b).rows (left_at b.progress k h).left, few_rows b.progress.table)
 
-module _ (b : VectorBoard) (k : ℕ) where
-  -- what the orders leave of the progress is what they mean
-  pub started_means : (board_started (plan_on b) (standing_of b) k).progress ≡ started (plan_on b) (standing_of b).progress k
-  started_means = either_progress (vectors_clear (plan_on b) (standing_of b) k) _ _ ∙ ap (λ y. cond y (stepped (standing_of b).progress k Running) (standing_of b).progress) (clear_means b k)
+-- an order that moves the cores to cs and the vectors to w: the vectors answer it with y, the board means m
+module _ (b : VectorBoard) (k : ℕ) (y m : Bool) (cs : List Core) (w : Vectors) where
+  -- answered with r, leaving the cores ds and the vectors v, it does what it means
+  pub record Done (r : Bool) (ds : List Core) (v : Vectors) : Type 0 where
+    pub answer : r ≡ m
+    pub progress : ds ≡ cond m cs (standing_of b).progress
+    pub standing : ◌≡◌ {A = Standing} (record { progress = ds; vectors = v }) (cond y (record { progress = cs; vectors = w }) (standing_of b))
 
-  pub eased_means : (board_eased (plan_on b) (standing_of b) k).progress ≡ eased (plan_on b) (standing_of b).progress k
-  eased_means = either_progress (vectors_easable (plan_on b) (standing_of b) k) _ _ ∙ ap (λ y. cond y (stepped (standing_of b).progress k Loose) (standing_of b).progress) (easable_means b k)
+  -- no task was named: the answer is no, and nothing is changed
+  pub refused : y ≡ m → None ≡ task_if y (plan_on b) (standing_of b) k → Done false (standing_of b).progress b.vectors
+  refused e h =
+      let off = none_task y (plan_on b) (standing_of b) k h in
+      record { answer = sym off ∙ e; progress = sym (cond-false m _ _ (sym e ∙ off)); standing = sym (cond-false y _ _ off) }
 
-  -- the step that an answer of yes shows
-  pub clear_pending : vectors_clear (plan_on b) (standing_of b) k ≡ true → is_pending (step_of (standing_of b).progress k) ≡ true
-  clear_pending h = (and_parts (is_pending (step_of (standing_of b).progress k)) _ (and_parts (ltb k (plan_on b).cores) _ h).1).0
+  -- a task was named: the answer is yes, and all is moved
+  obeyed : y ≡ m → y ≡ true → (r : Bool) (ds : List Core) (v : Vectors) → r ≡ true → ds ≡ cs → v ≡ w → Done r ds v
+  obeyed e on r ds v a f g =
+      record { answer = a ∙ (sym on ∙ e); progress = f ∙ sym (cond-true m _ _ (sym e ∙ on)); standing = ap (λ z. standing z v) f ∙ (ap (standing cs) g ∙ sym (cond-true y _ _ on)) }
 
-  pub easable_waiting : vectors_easable (plan_on b) (standing_of b) k ≡ true → is_waiting (step_of (standing_of b).progress k) ≡ true
-  easable_waiting h = (and_parts (is_waiting (step_of (standing_of b).progress k)) _ (and_parts (ltb k (plan_on b).cores) _ h).1).0
+module _ (b : VectorBoard) (k t : ℕ) where
+  -- the step that a named task shows
+  pub clear_pending : Some t ≡ task_if (vectors_clear (plan_on b) (standing_of b) k) (plan_on b) (standing_of b) k → is_pending (step_of (standing_of b).progress k) ≡ true
+  clear_pending some = (and_parts (is_pending (step_of (standing_of b).progress k)) _ (and_parts (ltb k (plan_on b).cores) _ (some_task _ (plan_on b) (standing_of b) k t some).0).1).0
+
+  pub easable_waiting : Some t ≡ task_if (vectors_easable (plan_on b) (standing_of b) k) (plan_on b) (standing_of b) k → is_waiting (step_of (standing_of b).progress k) ≡ true
+  easable_waiting some = (and_parts (is_waiting (step_of (standing_of b).progress k)) _ (and_parts (ltb k (plan_on b).cores) _ (some_task _ (plan_on b) (standing_of b) k t some).0).1).0
 
   -- the state after each order that was answered yes
-  module _ (t : ℕ) (x : Progress) (v : Vectors) where
-    pub started_standing : Some t ≡ task_if (vectors_clear (plan_on b) (standing_of b) k) (plan_on b) (standing_of b) k → progress_at x ≡ launched (standing_of b).progress k → v ≡ start_vectors b.vectors k t →
-        standing (progress_at x) v ≡ board_started (plan_on b) (standing_of b) k
-    started_standing some e f =
-        let h = some_task (vectors_clear (plan_on b) (standing_of b) k) (plan_on b) (standing_of b) k t some in
-        ap (λ cs. standing cs v) (e ∙ cond-true (is_pending (step_of (standing_of b).progress k)) _ _ (clear_pending h.0))
-        ∙ (ap (standing (stepped (standing_of b).progress k Running)) (f ∙ ap (start_vectors b.vectors k) h.1)
-        ∙ sym (cond-true (vectors_clear (plan_on b) (standing_of b) k) _ _ h.0))
+  module _ (x : Progress) (v : Vectors) where
+    pub started_done : Some t ≡ task_if (vectors_clear (plan_on b) (standing_of b) k) (plan_on b) (standing_of b) k → (r : Bool) → r ≡ true → progress_at x ≡ launched (standing_of b).progress k → v ≡ start_vectors b.vectors k t →
+        Done b k (vectors_clear (plan_on b) (standing_of b) k) (clear (plan_on b) (standing_of b).progress k) (stepped (standing_of b).progress k Running) (start_vectors b.vectors k (next (plan_on b) (standing_of b).progress k)) r (progress_at x) v
+    started_done some r a e f =
+        let h = some_task _ (plan_on b) (standing_of b) k t some in
+        obeyed b k _ _ _ _ (clear_means b k) h.0 r _ v a (e ∙ cond-true _ _ _ (clear_pending some)) (f ∙ ap (start_vectors b.vectors k) h.1)
 
-    pub eased_standing : Some t ≡ task_if (vectors_easable (plan_on b) (standing_of b) k) (plan_on b) (standing_of b) k → progress_at x ≡ loosened (standing_of b).progress k →
-        (inputs : CoreSet) → inputs ≡ (row (plan_on b) t).inputs → v ≡ ease_linked 8 b.links (dropped b.vectors k t inputs) b.vectors k t → standing (progress_at x) v ≡ board_eased (plan_on b) (standing_of b) k
-    eased_standing some e inputs i f =
-        let h = some_task (vectors_easable (plan_on b) (standing_of b) k) (plan_on b) (standing_of b) k t some in
-        let small : t < 384 = omega (arith, h.1, next_small b k (waiting_left _ (easable_waiting h.0))) in
+    pub eased_done : Some t ≡ task_if (vectors_easable (plan_on b) (standing_of b) k) (plan_on b) (standing_of b) k → (r : Bool) → r ≡ true → progress_at x ≡ loosened (standing_of b).progress k →
+        (inputs : CoreSet) → inputs ≡ (row (plan_on b) t).inputs → v ≡ ease_linked 8 b.links (dropped b.vectors k t inputs) b.vectors k t →
+        Done b k (vectors_easable (plan_on b) (standing_of b) k) (easable (plan_on b) (standing_of b).progress k) (stepped (standing_of b).progress k Loose) (ease_vectors 8 (plan_on b) b.vectors k (next (plan_on b) (standing_of b).progress k)) r (progress_at x) v
+    eased_done some r a e inputs i f =
+        let h = some_task _ (plan_on b) (standing_of b) k t some in
+        let small : t < 384 = omega (arith, h.1, next_small b k (waiting_left _ (easable_waiting some))) in
         let linked = ap (λ (l : Links). ease_linked 8 l (dropped b.vectors k t inputs) b.vectors k t) b.linked in
         let rowed = ap (λ (s : CoreSet). ease_linked 8 (links_of (plan_on b)) (dropped b.vectors k t s) b.vectors k t) i in
-        ap (λ cs. standing cs v) (e ∙ cond-true (is_waiting (step_of (standing_of b).progress k)) _ _ (easable_waiting h.0))
-        ∙ (ap (standing (stepped (standing_of b).progress k Loose)) (f ∙ (linked ∙ (rowed ∙ (ease_is (plan_on b) b.vectors k t 8 small (omega arith) ∙ ap (ease_vectors 8 (plan_on b) b.vectors k) h.1))))
-        ∙ sym (cond-true (vectors_easable (plan_on b) (standing_of b) k) _ _ h.0))
+        obeyed b k _ _ _ _ (easable_means b k) h.0 r _ v a (e ∙ cond-true _ _ _ (easable_waiting some)) (f ∙ (linked ∙ (rowed ∙ (ease_is (plan_on b) b.vectors k t 8 small (omega arith) ∙ ap (ease_vectors 8 (plan_on b) b.vectors k) h.1))))
 
     pub ended_standing : Some t ≡ task_if (is_running (step_of (standing_of b).progress k)) (plan_on b) (standing_of b) k → progress_at x ≡ finished (plan_on b) (standing_of b).progress k → v ≡ end_vectors 8 b.vectors k t →
         standing (progress_at x) v ≡ board_finished (plan_on b) (standing_of b) k

@@ -39,6 +39,10 @@ pub record Told (w : Waits) (f : ℕ) (s : Bits) (y : ℕ) : Type 0 where
   pub bit : s.ready place ≡ true
   pub task : s.target y ≡ Some (w.task place)
 
+-- a told place stays one where its bits are the same
+told_by : (w : Waits) (f g : ℕ) (s s' : Bits) (y : ℕ) → (t : Told w f s y) → g ≤ t.place → s'.ready t.place ≡ s.ready t.place → s'.target y ≡ s.target y → Told w g s' y
+told_by w f g s s' y t above ready target = record { place = t.place; above = above; within = t.within; waits = t.waits; bit = ready ∙ t.bit; task = target ∙ t.task }
+
 -- E tasks of the other core have ended; the waits from place f on are in force
 pub record Kept (w : Waits) (E f : ℕ) (s : Bits) : Type 0 where
   pub first : f < w.many → E < w.wait f → s.ready f ≡ true
@@ -73,14 +77,7 @@ alike w E f s s' a k = record {
     only = λ j u l m b. h.only j u l m (sym (a.ready j l) ∙ b);
   };
   free = λ e i h l m b. k.free (sym a.status ∙ e) i h l m (sym (a.ready i l) ∙ b);
-  told = λ y h l e. let t = k.told y h l (sym (a.notify y l) ∙ e) in record {
-    place = t.place;
-    above = t.above;
-    within = t.within;
-    waits = t.waits;
-    bit = a.ready t.place t.within ∙ t.bit;
-    task = a.target y l ∙ t.task;
-  };
+  told = λ y h l e. let t = k.told y h l (sym (a.notify y l) ∙ e) in told_by w f f s s' y t t.above (a.ready t.place t.within) (a.target y l);
   untold = λ y h l e. k.untold y h l (sym (a.notify y l) ∙ e);
 }
 
@@ -151,14 +148,7 @@ module _ (w : Waits) (r : Rises w) (E f : ℕ) (s : Bits) (k : Kept w E f s) whe
         later = λ i h l u. er (suc i) ∙ k.later i (omega arith) l u;
         held = held;
         free = free;
-        told = λ y h l e. let t = k.told y h l (sym (en y) ∙ e) in record {
-          place = t.place;
-          above = apart y t.place h t.above t.waits;
-          within = t.within;
-          waits = t.waits;
-          bit = er t.place ∙ t.bit;
-          task = et y ∙ t.task;
-        };
+        told = λ y h l e. let t = k.told y h l (sym (en y) ∙ e) in told_by w f (suc f) s s' y t (apart y t.place h t.above t.waits) (er t.place) (et y);
         untold = λ y h l e i a. k.untold y h l (sym (en y) ∙ e) i (omega arith);
       }
 
@@ -199,14 +189,8 @@ module _ (w : Waits) (r : Rises w) (E f : ℕ) (s : Bits) (k : Kept w E f s) whe
     told = λ y h n e.
         let ne : suc y ≡ w.wait f → ⊥ = λ q. both_ways (s'.notify y) (off y q) e in
         let t = k.told y h n (sym (en y ne n) ∙ e) in
-        let away : t.place ≡ f → ⊥ = λ q. ne (sym (rw q at t.waits)) in record {
-          place = t.place;
-          above = omega (arith, t.above);
-          within = t.within;
-          waits = t.waits;
-          bit = er t.place away t.within ∙ t.bit;
-          task = et y n ∙ t.task;
-        };
+        let away : t.place ≡ f → ⊥ = λ q. ne (sym (rw q at t.waits)) in
+        told_by w f (suc f) s s' y t (omega (arith, t.above)) (er t.place away t.within) (et y n);
     untold = λ y h n e i a il q. go y h n e i a il q (cases_eq (suc y) (w.wait f));
   }
     where
@@ -240,14 +224,8 @@ module _ (w : Waits) (r : Rises w) (E f : ℕ) (s : Bits) (k : Kept w E f s) whe
       told' y h n e (inl q) = record { place = suc f; above = omega arith; within = l; waits = omega (arith, same); bit = on; task = ta y q n }
       told' y h n e (inr q) = let t = k.told y h n (sym (en y n) ∙ e) in
           let away : t.place ≡ f → ⊥ = λ g. q (sym (rw g at t.waits)) in
-          let away' : t.place ≡ suc f → ⊥ = λ g. q (sym (same ∙ rw g at t.waits)) in record {
-            place = t.place;
-            above = omega (arith, t.above);
-            within = t.within;
-            waits = t.waits;
-            bit = er t.place away away' t.within ∙ t.bit;
-            task = et y q n ∙ t.task;
-          }
+          let away' : t.place ≡ suc f → ⊥ = λ g. q (sym (same ∙ rw g at t.waits)) in
+          told_by w f (suc f) s s' y t (omega (arith, t.above)) (er t.place away away' t.within) (et y q n)
 
   -- the other core's task E ends, and nobody is to be told
   pub end_kept_quiet : E < w.others → s.notify E ≡ false → Kept w (suc E) f s
@@ -285,14 +263,7 @@ module _ (w : Waits) (r : Rises w) (E f : ℕ) (s : Bits) (k : Kept w E f s) whe
       only = λ j a n m b. the_one j a n m (sym (er j) ∙ b) (cases_eq (w.wait j) (suc E));
     };
     free = λ e. absurd (true≢false (sym es ∙ e));
-    told = λ y h n e. let q = k.told y (omega arith) n (sym (en y) ∙ e) in record {
-      place = q.place;
-      above = q.above;
-      within = q.within;
-      waits = q.waits;
-      bit = er q.place ∙ q.bit;
-      task = et y ∙ q.task;
-    };
+    told = λ y h n e. let q = k.told y (omega arith) n (sym (en y) ∙ e) in told_by w f f s s' y q q.above (er q.place) (et y);
     untold = λ y h n e. k.untold y (omega arith) n (sym (en y) ∙ e);
   }
     where
@@ -321,14 +292,7 @@ module _ (w : Waits) (r : Rises w) (E f : ℕ) (s : Bits) (k : Kept w E f s) whe
               h.only j a n (omega arith) bj;
         };
     free = λ e. absurd (true≢false (sym es ∙ e));
-    told = λ y h n e. let q = k.told y (omega arith) n (sym (en y) ∙ e) in record {
-      place = q.place;
-      above = q.above;
-      within = q.within;
-      waits = q.waits;
-      bit = er q.place (away q.place (omega (arith, q.waits))) q.within ∙ q.bit;
-      task = et y ∙ q.task;
-    };
+    told = λ y h n e. let q = k.told y (omega arith) n (sym (en y) ∙ e) in told_by w f f s s' y q q.above (er q.place (away q.place (omega (arith, q.waits))) q.within) (et y);
     untold = λ y h n e. k.untold y (omega arith) n (sym (en y) ∙ e);
   }
     where

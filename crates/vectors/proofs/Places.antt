@@ -1,9 +1,10 @@
 -- The tasks of one core by their places, and how their waits grow along it.
-use Rattle.std.proofs.Common.{◌≡◌, ℕ, suc, ◌+◌, ◌<◌, ◌≤◌, Bool, true, leb, ◌⊎◌, List, [], ◌∷◌, take, count_by, sym, ap, ◌∙◌, inl, inr, ⊎_elim, add-one, arith}
-use Rattle.std.proofs.lemmas.Bool.{cases_Bool, cases_eq, cases_lt, leb-true, le-leb, and_parts, and_from}
+use Rattle.std.proofs.Common.{◌≡◌, ℕ, suc, ◌+◌, ◌<◌, ◌≤◌, Bool, true, cond, leb, ◌⊎◌, List, [], ◌∷◌, take, count_by, sym, ap, ◌∙◌, inl, inr, ⊎_elim, add-one, arith}
+use Rattle.std.proofs.lemmas.Bool.{cases_eq, cases_lt, leb-true, le-leb, and_parts, and_from}
+use Rattle.std.proofs.lemmas.List.Sums.{sum_by-cons}
 use Rattle.table.specs.Rows.{Plan, row, on, ends_by, named, nth_on, tasks_on, wait}
 use Rattle.table.specs.declared.rows.Row.{Row}
-use Rattle.table.proofs.Places.{Found, nth_found, nth_none, none_on, before_mono, count_yes, count_no}
+use Rattle.table.proofs.Places.{Found, nth_found, nth_none, none_on, before_mono}
 use Rattle.table.proofs.Tables.{nth_within}
 use Rattle.table.proofs.Ordered.{Ordered}
 use Rattle.vectors.specs.Links.{place, following}
@@ -11,12 +12,7 @@ use Rattle.vectors.specs.Links.{place, following}
 -- a weaker test counts at least as many rows
 count_le : (f g : Row → Bool) → ((r : Row) → f r ≡ true → g r ≡ true) → (rows : List Row) → count_by f rows ≤ count_by g rows
 count_le f g weak [] = omega arith
-count_le f g weak (r ∷ rs) =
-    let ih = count_le f g weak rs in
-    ⊎_elim
-    (λ e. omega (arith, ih, count_yes f r rs e, count_yes g r rs (weak r e)))
-    (λ e. ⊎_elim (λ y. omega (arith, ih, count_no f r rs e, count_yes g r rs y)) (λ y. omega (arith, ih, count_no f r rs e, count_no g r rs y)) (cases_Bool (g r)))
-    (cases_Bool (f r))
+count_le f g weak (r ∷ rs) = grind (arith, count_le f g weak rs, weak r, sum_by-cons (λ r. cond (f r) 1 0) r rs, sum_by-cons (λ r. cond (g r) 1 0) r rs)
 
 -- a row that starts later waits for no fewer rows
 pub wait_rises : (rows : List Row) (a b : Row) (k : ℕ) → a.start ≤ b.start → wait rows a k ≤ wait rows b k

@@ -1,24 +1,25 @@
 -- What holds of every vector board, since its state is one that orders lead to.
-use Rattle.std.proofs.Common.{◌≡◌, ℕ, zero, suc, ◌<◌, ◌≤◌, Bool, true, false, cond, not, ◌&&◌, get_or, is_some, Some, None, Option, sym, refl, ap, ◌∙◌, arith}
+use Rattle.std.proofs.Common.{◌≡◌, ℕ, zero, suc, ◌<◌, ◌≤◌, Bool, true, false, cond, not, ◌&&◌, ltb, get_or, is_some, Some, None, Option, sym, refl, ap, ◌∙◌, ⊎_elim, arith}
 use mathlib.Core.Bool.{Bool-set}
 use mathlib.Core.Logic.{∥∥₁_elim}
 use Rattle.std.proofs.Math.Bool.{not-not, and_assoc}
 use Rattle.std.specs.Bool.{then_some}
+use Rattle.std.specs.Option.{MatchOption}
+use Rattle.std.proofs.lemmas.Bool.{both_ways, cases_Bool}
 use Rattle.std.proofs.lemmas.List.FromFn.{get_or-map-range_with_len}
 use Rattle.table.specs.Sets.{has, without, less}
 use Rattle.table.specs.Rows.{Plan, row}
 use Rattle.table.specs.Below.{any_below}
-use Rattle.table.specs.declared.rows.CoreSet.{CoreSet}
 use Rattle.table.proofs.Below.{any_same}
 use Rattle.table.proofs.Sets.{less_at}
 use Rattle.table.proofs.Tables.{named_some}
 use Rattle.board.specs.Steps.{is_over, is_running}
 use Rattle.board.specs.Standing.{progress_at}
 use Rattle.board.specs.declared.cores.Step.{Step}
-use Rattle.board.specs.declared.cores.Step.TheVariants.{Waiting, Loose, Running, Over}
-use Rattle.board.proofs.Asking.{none_over}
-use Rattle.board.specs.Meaning.{clear, easable, next_task, step_of}
-use Rattle.board.specs.Keeping.{progress_lawful}
+use Rattle.board.specs.declared.cores.Core.{Core}
+use Rattle.board.proofs.Asking.{asked_with, none_over}
+use Rattle.board.specs.Meaning.{clear, easable, idle, next, next_task, step_of}
+use Rattle.board.specs.Keeping.{progress_lawful, running_left}
 use Rattle.vectors.specs.Links.{completer, following, task_links, links_of, no_links, links_at, completer_of, following_of}
 use Rattle.vectors.specs.Phases.{Standing, ready_of, status_of, set_ready, hand_on, drops, drop_bit, ease_vectors, vectors_clear, vectors_easable}
 use Rattle.vectors.specs.Linked.{dropped, drop_linked, ease_linked}
@@ -83,19 +84,28 @@ ease_is p v k t (suc j) l m =
         ap (λ (f : Option ℕ). hand_on w f k (completer_of (links_of p) t j) j) (following_at p t l) ∙ ap (λ (x : Option ℕ). hand_on w (following p t) k x j) (completer_at p t j l (omega arith))
 
 -- some bit is dropped, as the code asks it
-pub some_dropped : (b : VectorBoard) (k t : ℕ) (inputs d : CoreSet) → inputs ≡ (row (plan_on b) t).inputs → d ≡ dropped b.vectors k t inputs →
-    not (not (any_below 8 (has d))) ≡ any_below 8 (drops (plan_on b) b.vectors k t)
-some_dropped b k t inputs d f g =
-    let is : d ≡ dropped b.vectors k t (row (plan_on b) t).inputs = g ∙ ap (dropped b.vectors k t) f in
-    not-not (any_below 8 (has d)) ∙ any_same 8 (has d) (drops (plan_on b) b.vectors k t) (λ j l. ap (λ (x : CoreSet). has x j) is ∙ dropped_at (plan_on b) b.vectors k t j l)
+pub some_dropped : (p : Plan) (v : Vectors) (k t : ℕ) → not (not (any_below 8 (has (dropped v k t (row p t).inputs)))) ≡ any_below 8 (drops p v k t)
+some_dropped p v k t = let d = dropped v k t (row p t).inputs in not-not (any_below 8 (has d)) ∙ any_same 8 (has d) (drops p v k t) (dropped_at p v k t)
 
--- the next task, if the answer is yes; without one the answer is no
-pub next_if : (y z : Bool) (b : VectorBoard) (k t : ℕ) → y ≡ z → Some t ≡ next_task (plan_on b) (progress_at b.progress) k → then_some y t ≡ task_if z (plan_on b) (standing_of b) k
-next_if y true b k t e d = ap (λ x. then_some x t) e ∙ ap Some (sym (named_some _ t (sym d)))
-next_if y false b k t e d = ap (λ x. then_some x t) e
+-- the next task if it passes a test is the next task if the answer is yes
+pub tested : (b : VectorBoard) (k : ℕ) (z : Bool) (o r : Option ℕ) → o ≡ next_task (plan_on b) (progress_at b.progress) k → (P : ℕ → Bool → Type 0) →
+    (None ≡ next_task (plan_on b) (progress_at b.progress) k → false ≡ z) → ((t : ℕ) (y : Bool) → Some t ≡ next_task (plan_on b) (progress_at b.progress) k → P t y → y ≡ z) →
+    MatchOption o (r ≡ None) (λ t. (y : Bool) × P t y × (r ≡ then_some y t)) → r ≡ task_if z (plan_on b) (standing_of b) k
+tested b k z None r d P off on h = h ∙ ap (λ y. task_if y (plan_on b) (standing_of b) k) (off d)
+tested b k z (Some t) r d P off on (y, q, e) = e ∙ (ap (λ x. then_some x t) (on t y d q) ∙ named z)
+  where
+    named : (z : Bool) → then_some z t ≡ task_if z (plan_on b) (standing_of b) k
+    named true = ap Some (sym (named_some _ t (sym d)))
+    named false = refl
 
-pub none_if : (z : Bool) (b : VectorBoard) (k : ℕ) → false ≡ z → None ≡ task_if z (plan_on b) (standing_of b) k
-none_if z b k e = ap (λ y. task_if y (plan_on b) (standing_of b) k) e
+-- the same where the test is one of the step and one of the task
+pub asked : (b : VectorBoard) (k : ℕ) (g : Step → Bool) (f : Step → ℕ → Bool) → ((s : Step) → g s ≡ true → is_over s ≡ false) → (c : Core) (o r : Option ℕ) →
+    c ≡ get_or (progress_at b.progress) k idle → o ≡ next_task (plan_on b) (progress_at b.progress) k → (P : ℕ → Bool → Type 0) → ((t : ℕ) (y : Bool) → P t y → y ≡ (g c.step && f c.step t)) →
+    MatchOption o (r ≡ None) (λ t. (y : Bool) × P t y × (r ≡ then_some y t)) →
+    r ≡ task_if (ltb k (plan_on b).cores && (g (step_of (progress_at b.progress) k) && f (step_of (progress_at b.progress) k) (next (plan_on b) (progress_at b.progress) k))) (plan_on b) (standing_of b) k
+asked b k g f left c o r e d P m = tested b k _ o r d P
+    (λ n. asked_with b.progress k g f left c None false e n (λ t. P t false) (λ t. m t false) refl)
+    (λ t y n. asked_with b.progress k g f left c (Some t) y e n (λ t. P t y) (λ t. m t y))
 
 -- whether a task was named
 pub some_if : (y : Bool) (b : VectorBoard) (k : ℕ) → is_some (task_if y (plan_on b) (standing_of b) k) ≡ y
@@ -103,11 +113,8 @@ some_if true b k = refl
 some_if false b k = refl
 
 -- a core with no next task runs none
-over_running : (s : Step) → is_over s ≡ true → is_running s ≡ false
-over_running Waiting h = refl
-over_running Loose h = refl
-over_running Running h = sym h
-over_running Over h = refl
-
-pub none_running : (b : VectorBoard) (k : ℕ) → None ≡ next_task (plan_on b) (progress_at b.progress) k → is_running (step_of (progress_at b.progress) k) ≡ false
-none_running b k h = over_running _ (none_over b.progress k h)
+pub none_running : (b : VectorBoard) (k : ℕ) → None ≡ next_task (plan_on b) (progress_at b.progress) k → false ≡ is_running (step_of (progress_at b.progress) k)
+none_running b k h = go (step_of (progress_at b.progress) k) (none_over b.progress k h)
+  where
+    go : (s : Step) → is_over s ≡ true → false ≡ is_running s
+    go s h = ⊎_elim (λ y. absurd (both_ways (is_over s) (running_left s y) h)) (λ n. sym n) (cases_Bool (is_running s))

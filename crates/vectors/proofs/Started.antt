@@ -1,5 +1,5 @@
 -- A start keeps the vectors in agreement with the progress.
-use Rattle.std.proofs.Common.{◌≡◌, ℕ, suc, ◌<◌, Bool, true, false, cond, not, ◌&&◌, ◌||◌, ltb, ◌⊎◌, List, length, get_or, sym, refl, ap, ◌∙◌, subst, inl, inr, arith}
+use Rattle.std.proofs.Common.{◌≡◌, ℕ, suc, ◌<◌, Bool, true, false, not, ◌&&◌, ◌||◌, ltb, ◌⊎◌, List, length, get_or, sym, refl, ap, ◌∙◌, subst, inl, inr, arith}
 use Rattle.std.proofs.Math.Bool.{and-true}
 use Rattle.std.proofs.lemmas.Bool.{ltb-true, cases_eq, and_parts, true≢false, cond_both}
 use Rattle.std.proofs.lemmas.List.{get_or-set_same, get_or-set_other, length-set}
@@ -140,11 +140,6 @@ module _ (p : Plan) (o : Ordered p) (cs : List Core) (v : Vectors) (s : Agree p 
       go : (d k : ℕ) → d < p.cores → k < p.cores → (d ≡ k → ⊥) → ((d ≡ c) ⊎ (d ≡ c → ⊥)) → Pair p v' d k (get_or (stepped cs c Running) d idle) (ended_on (stepped cs c Running) k)
       go d k hd hk n (inl e) = rw (e, stepped_here cs c Running hl, stepped_ended cs c Running hl k) (pair_here k hk (λ q. n (e ∙ q)))
       go d k hd hk n (inr dc) = rw (stepped_there cs c Running hl d dc, stepped_ended cs c Running hl k) (pair_there d k dc hd hk n)
-
--- the progress of a board that is one of two
-pub either_progress : (x : Bool) (b b' : Standing) → (cond x b' b).progress ≡ cond x b'.progress b.progress
-either_progress true b b' = refl
-either_progress false b b' = refl
 
 -- a start keeps the agreement
 pub agree_started : (p : Plan) → Ordered p → (b : Standing) → Agree p b.progress b.vectors → (k : ℕ) → Agree p (board_started p b k).progress (board_started p b k).vectors

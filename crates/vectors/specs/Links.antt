@@ -1,6 +1,7 @@
 -- What the vectors of a table are made from: which task begins to wait on a core, and which task completes that wait.
-use Rattle.std.specs.Prelude.{ℕ, ◌+◌, ◌-◌, Bool, false, cond, not, ◌&&◌, map, replicate, length, take, Some, None, Option, ◌==◌, nat_lt, slice_index_or}
+use Rattle.std.specs.Prelude.{ℕ, ◌+◌, ◌-◌, Bool, cond, not, ◌&&◌, map, replicate, length, take, Some, None, Option, ◌==◌, nat_eq, nat_lt, slice_index_or}
 use Rattle.std.specs.List.{range_with_len}
+use Rattle.std.specs.Option.{option_eq}
 use Rattle.table.specs.Below.{first_from}
 use Rattle.table.specs.Rows.{Plan, row, on, named, nth_on, tasks_on, wait}
 use Rattle.vectors.specs.declared.state.Links.{Links}
@@ -28,8 +29,7 @@ completer p t k = named (nth_on k (wait p.rows (row p t) k - 1) 0 p.rows)
 
 -- task x it is
 abbrev pub is_task : ℕ → Option ℕ → Bool
-is_task x None = false
-is_task x (Some y) = x == y
+is_task x a = option_eq nat_eq a (Some x)
 
 -- task i lies on core c and begins to wait on the core of task x, and x completes that wait
 abbrev pub aims : Plan → ℕ → ℕ → ℕ → Bool
@@ -43,7 +43,7 @@ first_target p x c = first_from (aims p x c) 0 (length p.rows)
 abbrev pub task_links : Plan → ℕ → TaskLinks
 task_links p t = record { completers = map (completer p t) (range_with_len 0 8); following = following p t }
 
--- so for every task
+-- the same for every task that a table can have
 abbrev pub links_of : Plan → Links
 links_of p = record { tasks = map (task_links p) (range_with_len 0 384) }
 

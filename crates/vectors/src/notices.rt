@@ -5,6 +5,7 @@ ghost use Rattle.board.specs.Steps.{is_running};
 ghost use Rattle.vectors.specs.Phases.{board_eased, board_finished, board_started, notify_of, ready_of, status_of, target_of, vectors_clear, vectors_easable};
 ghost use Rattle.table.specs.Rows.{nothing, row};
 ghost use Rattle.table.specs.View.{plan_of};
+ghost use Rattle.vectors.specs.Linked.{dropped};
 ghost use Rattle.vectors.specs.Reached.{first_standing};
 ghost use Rattle.vectors.specs.View.{plan_on, standing_of, task_if};
 ghost use Rattle.board.specs.Keeping.{progress_lawful, progress_left};
@@ -73,28 +74,34 @@ impl VectorBoard {
     fn clear_task(&self, core: u32) -> Option<u16>
         ensures { result ≡ task_if (vectors_clear (plan_on self.now) (standing_of self.now) core) (plan_on self.now) (standing_of self.now) core }
     {
-        let task = self.progress.next(core)?;
-        let clear = self.progress.core(core).step.is_pending() && self.vectors.noticed(core, task);
-        clear.then_some(task)
+        let step = self.progress.core(core).step;
+        let next = self.progress.next(core);
+        next.filter(|task| step.is_pending() && self.vectors.noticed(core, *task))
     }
 
     // The core's next task, if the core can be eased: exactly when its vectors say so.
     fn easable_task(&self, core: u32) -> Option<u16>
         ensures { result ≡ task_if (vectors_easable (plan_on self.now) (standing_of self.now) core) (plan_on self.now) (standing_of self.now) core }
     {
-        let task = self.progress.next(core)?;
-        let dropped = self.vectors.dropped(core, task, self.inputs(task));
-        let easable = self.progress.core(core).step.is_waiting() && !dropped.is_empty();
-        easable.then_some(task)
+        let step = self.progress.core(core).step;
+        let next = self.progress.next(core);
+        next.filter(|task| step.is_waiting() && !self.dropped(core, *task).is_empty())
     }
 
     // The task that the core runs, if it runs one.
     fn running_task(&self, core: u32) -> Option<u16>
         ensures { result ≡ task_if (is_running (step_of (progress_at self.now.progress) core)) (plan_on self.now) (standing_of self.now) core }
     {
-        let task = self.progress.next(core)?;
-        let runs = self.progress.core(core).step.is_running();
-        runs.then_some(task)
+        let step = self.progress.core(core).step;
+        let next = self.progress.next(core);
+        next.filter(|_| step.is_running())
+    }
+
+    // The waits of the core's task that easing drops.
+    fn dropped(&self, core: u32, task: u16) -> CoreSet
+        ensures { result ≡ dropped self.now.vectors core task (row (plan_on self.now) task).inputs }
+    {
+        self.vectors.dropped(core, task, self.inputs(task))
     }
 
     // The task's data bits.
@@ -142,6 +149,7 @@ impl Board for VectorBoard {
         self.easable_task(core).is_some()
     }
 
+    // An impl's own clauses replace those of the trait, so the orders repeat these beside `standing`.
     fn ease(&mut self, core: u32) -> bool
         ensures answer { result ≡ easable (plan_on self.old) (progress_at self.old.progress) core }
         ensures plan { plan_on self.new ≡ plan_on self.old }

@@ -1,6 +1,6 @@
 ghost use Rattle.std.specs.Prelude.{◌≡◌, ◌-◌, ◌<◌, ℕ, Bool, map, is_some, if◌then◌else◌, None, nat_eq, slice_index_or};
 ghost use Rattle.std.specs.List.{range_with_len};
-ghost use Rattle.table.specs.Rows.{named, nth_on, row};
+ghost use Rattle.table.specs.Rows.{named, nth_on, row, wait};
 ghost use Rattle.table.specs.Sets.{set_of};
 ghost use Rattle.table.specs.View.{plan_of};
 ghost use Rattle.vectors.specs.Links.{aims, begins, completer, first_target, following, links_of, place, task_links, wait_before};
@@ -10,44 +10,6 @@ use crate::state::{Links, TaskLinks, TaskVectors, Vectors};
 use std::array;
 use table::lawful::Table;
 use table::rows::CoreSet;
-
-// The task before this one on its core, if there is one.
-fn preceding(table: &Table, task: u16) -> Option<u16>
-    ensures { result ≡ (if nat_eq (place (plan_of table.now) task) 0 then None else named (nth_on (row (plan_of table.now) task).core (place (plan_of table.now) task - 1) 0 (plan_of table.now).rows)) }
-{
-    let core = u32::from(table.row(task).core);
-    let place = table.place(task).checked_sub(1)?;
-    table.nth_on(core, place)
-}
-
-// The task after this one on its core, if there is one.
-fn following(table: &Table, task: u16) -> Option<u16>
-    ensures { result ≡ following (plan_of table.now) task }
-{
-    table.nth_on(u32::from(table.row(task).core), table.place(task) + 1)
-}
-
-// The wait on the core of the task before this one, 0 if there is none.
-fn wait_before(table: &Table, task: u16, core: u32) -> u16
-    ensures { result ≡ wait_before (plan_of table.now) task core }
-{
-    preceding(table, task).map_or(0, |before| table.wait(before, core))
-}
-
-// Does the task begin to wait on the core: does its wait there exceed that of the task before it?
-fn begins(table: &Table, task: u16, core: u32) -> bool
-    ensures { result ≡ begins (plan_of table.now) task core }
-{
-    u32::from(table.row(task).core) != core
-        && wait_before(table, task, core) < table.wait(task, core)
-}
-
-// The task of the core that completes the wait of this task there, if there is one.
-fn completer(table: &Table, task: u16, core: u32) -> Option<u16>
-    ensures { result ≡ completer (plan_of table.now) task core }
-{
-    table.nth_on(core, table.wait(task, core).saturating_sub(1))
-}
 
 // The cores at which the test holds: a loop, since a filter and a fold would say it no more plainly.
 fn cores_where<F: Fn(u32) -> bool>(test: F) -> CoreSet
@@ -63,29 +25,94 @@ fn cores_where<F: Fn(u32) -> bool>(test: F) -> CoreSet
     cores
 }
 
-// The cores on which the task begins to wait.
-fn ready_vector(table: &Table, task: u16) -> CoreSet
-    ensures { result ≡ set_of (begins (plan_of table.now) task) }
-{
-    cores_where(|k| begins(table, task, k))
+// A task of a table that a board is opened on.
+#[derive(Clone, Copy)]
+struct TaskOf<'a> {
+    table: &'a Table,
+    task: u16,
 }
 
-// What a board looks up of its table for the task.
-fn task_links(table: &Table, task: u16) -> TaskLinks
-    ensures { result ≡ task_links (plan_of table.now) task }
-{
-    TaskLinks {
-        completers: array::from_fn(|k| completer(table, task, k as u32)),
-        following: following(table, task),
+impl<'a> TaskOf<'a> {
+    // The core on which the task lies.
+    fn core(&self) -> u32
+        ensures { result ≡ (row (plan_of self.now.table.now) self.now.task).core }
+    {
+        u32::from(self.table.row(self.task).core)
+    }
+
+    // The wait of the task on the core.
+    fn wait(&self, core: u32) -> u16
+        ensures { result ≡ wait (plan_of self.now.table.now).rows (row (plan_of self.now.table.now) self.now.task) core }
+    {
+        self.table.wait(self.task, core)
+    }
+
+    // The task before this one on its core, if there is one.
+    fn preceding(&self) -> Option<u16>
+        ensures { result ≡ (if nat_eq (place (plan_of self.now.table.now) self.now.task) 0 then None else named (nth_on (row (plan_of self.now.table.now) self.now.task).core (place (plan_of self.now.table.now) self.now.task - 1) 0 (plan_of self.now.table.now).rows)) }
+    {
+        let place = self.table.place(self.task).checked_sub(1)?;
+        self.table.nth_on(self.core(), place)
+    }
+
+    // The task after this one on its core, if there is one.
+    fn following(&self) -> Option<u16>
+        ensures { result ≡ following (plan_of self.now.table.now) self.now.task }
+    {
+        self.table
+            .nth_on(self.core(), self.table.place(self.task) + 1)
+    }
+
+    // The wait on the core of the task before this one, 0 if there is none.
+    fn wait_before(&self, core: u32) -> u16
+        ensures { result ≡ wait_before (plan_of self.now.table.now) self.now.task core }
+    {
+        self.preceding()
+            .map_or(0, |before| self.table.wait(before, core))
+    }
+
+    // Does the task begin to wait on the core: does its wait there exceed that of the task before it?
+    fn begins(&self, core: u32) -> bool
+        ensures { result ≡ begins (plan_of self.now.table.now) self.now.task core }
+    {
+        self.core() != core && self.wait_before(core) < self.wait(core)
+    }
+
+    // The task of the core that completes the wait of this task there, if there is one.
+    fn completer(&self, core: u32) -> Option<u16>
+        ensures { result ≡ completer (plan_of self.now.table.now) self.now.task core }
+    {
+        self.table.nth_on(core, self.wait(core).saturating_sub(1))
+    }
+
+    // The cores on which the task begins to wait.
+    fn ready_vector(&self) -> CoreSet
+        ensures { result ≡ set_of (begins (plan_of self.now.table.now) self.now.task) }
+    {
+        cores_where(|k| self.begins(k))
+    }
+
+    // What a board looks up of its table for the task.
+    fn links(&self) -> TaskLinks
+        ensures { result ≡ task_links (plan_of self.now.table.now) self.now.task }
+    {
+        TaskLinks {
+            completers: array::from_fn(|k| self.completer(k as u32)),
+            following: self.following(),
+        }
     }
 }
 
-// So for every task.
+// What a board looks up of its table, for every task that a table can have.
 fn links(table: &Table) -> Links
     ensures { result ≡ links_of (plan_of table.now) }
 {
     Links {
-        tasks: array::from_fn(|t| task_links(table, t as u16)),
+        tasks: array::from_fn(|t| TaskOf {
+            table,
+            task: t as u16,
+        }
+        .links()),
     }
 }
 
@@ -113,7 +140,11 @@ impl<'a> Opening<'a> {
         Opening {
             table,
             links: links(table),
-            ready: array::from_fn(|t| ready_vector(table, t as u16)),
+            ready: array::from_fn(|t| TaskOf {
+                table,
+                task: t as u16,
+            }
+            .ready_vector()),
         }
     }
 

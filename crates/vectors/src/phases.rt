@@ -1,4 +1,5 @@
-ghost use Rattle.std.specs.Prelude.{◌≡◌};
+ghost use Rattle.std.specs.Prelude.{◌≡◌, slice_set};
+ghost use Rattle.std.specs.Fn.{FnOnceReturnsAtMut};
 ghost use Rattle.vectors.specs.Links.{completer_of, following_of, links_at};
 ghost use Rattle.vectors.specs.Linked.{drop_linked, dropped, ease_linked};
 ghost use Rattle.vectors.specs.Phases.{end_vectors, hand_on, notice, noticed, notify_of, ready_of, retarget, set_notify, set_ready, set_status, set_target, start_vectors, status_of, target_of, unready, vectors_at, withdraw};
@@ -45,7 +46,7 @@ impl TaskVectors {
     };
 }
 
-// A core and its task stay two arguments: they are numbers of two types, and the definitions take them in this order.
+// A core and a task stay two arguments: often the task lies on another core, so a pair of them would mean two things.
 impl Vectors {
     // The vectors of the task, empty ones if there can be no such task.
     fn at(&self, task: u16) -> TaskVectors
@@ -79,34 +80,36 @@ impl Vectors {
         entry(&self.status, core as usize, CoreSet::NONE)
     }
 
-    // What follows differs in the field that is written, which no parameter names; so do `unready` and `withdraw`.
+    // Changes the vectors of the task; there is nothing to change if there can be no such task.
+    fn change<F: FnOnce(&mut TaskVectors)>(&mut self, task: u16, by: F)
+        requires { F.IsAlwaysCallable by }
+        ensures { (to : TaskVectors) → ((is : TaskVectors) → FnOnceReturnsAtMut F.FnOnce by (vectors_at self.old task) tt is → is ≡ to) → self.new ≡ record self.old { tasks = slice_set self.old.tasks task to } }
+    {
+        let mut vectors = self.at(task);
+        by(&mut vectors);
+        put(&mut self.tasks, usize::from(task), vectors);
+    }
+
     fn set_ready(&mut self, task: u16, to: CoreSet)
         ensures { self.new ≡ set_ready self.old task to }
     {
-        let vectors = TaskVectors {
-            ready: to,
-            ..self.at(task)
-        };
-        put(&mut self.tasks, usize::from(task), vectors);
+        self.change(task, |vectors| vectors.ready = to);
     }
 
     fn set_notify(&mut self, task: u16, to: CoreSet)
         ensures { self.new ≡ set_notify self.old task to }
     {
-        let vectors = TaskVectors {
-            notify: to,
-            ..self.at(task)
-        };
-        put(&mut self.tasks, usize::from(task), vectors);
+        self.change(task, |vectors| vectors.notify = to);
     }
 
     // Gives the task another target on the core.
     fn set_target(&mut self, task: u16, core: u32, to: u16)
         ensures { self.new ≡ set_target self.old task core to }
     {
-        let mut vectors = self.at(task);
-        put(&mut vectors.target, core as usize, Some(to));
-        put(&mut self.tasks, usize::from(task), vectors);
+        self.change(
+            task,
+            |vectors| put(&mut vectors.target, core as usize, Some(to)),
+        );
     }
 
     fn set_status(&mut self, core: u32, to: CoreSet)
@@ -130,7 +133,7 @@ impl Vectors {
         self.set_status(core, left);
     }
 
-    // The task, if there is one, needs no notice from the core any more: like the definition, it takes the answer of a look-up as it is.
+    // The task, if a look-up found one, needs no notice from the core any more.
     fn unready(&mut self, task: Option<u16>, core: u32)
         ensures { self.new ≡ unready self.old task core }
     {
@@ -153,7 +156,8 @@ impl Vectors {
         }
     }
 
-    // The task has ended on the core: all cores in its notification vector are told, in the order of the definition.
+    // The task has ended on the core: all cores in its notification vector are told.
+    // A loop over the core numbers: a set has no iterator, and a chain would hide that each step writes.
     pub(crate) fn end(&mut self, core: u32, task: u16)
         ensures { self.new ≡ end_vectors 8 self.old core task }
     {
@@ -165,7 +169,7 @@ impl Vectors {
         }
     }
 
-    // The end of the task, if there is one, is of no use to the core any more.
+    // The end of the task, if a look-up found one, is of no use to the core any more.
     fn withdraw(&mut self, task: Option<u16>, core: u32)
         ensures { self.new ≡ withdraw self.old task core }
     {
@@ -175,7 +179,7 @@ impl Vectors {
         }
     }
 
-    // The end of the task, if there is one, is for this task of the core now.
+    // The end of the task, if a look-up found one, is for task `to` of the core now.
     fn retarget(&mut self, task: Option<u16>, core: u32, to: u16)
         ensures { self.new ≡ retarget self.old task core to }
     {
@@ -184,7 +188,8 @@ impl Vectors {
         }
     }
 
-    // A dropped wait of the core for core `other`, which `completer` completes, goes to the following task, if that begins none of its own there.
+    // A dropped wait of the core for core `other`, which `completer` completes, goes to the following task,
+    // if that begins none of its own there.
     fn hand_on(&mut self, following: Option<u16>, core: u32, completer: Option<u16>, other: u32)
         ensures { self.new ≡ hand_on self.old following core completer other }
     {
@@ -220,7 +225,7 @@ impl Vectors {
         self.ready_of(task).less(self.status_of(core)).less(inputs)
     }
 
-    // The core's task is let loose: each wait that easing drops, in the order of the definition.
+    // The core's task is let loose: it drops each wait that easing drops, in a loop like that of `end`.
     pub(crate) fn ease(&mut self, links: &Links, core: u32, task: u16, inputs: CoreSet)
         ensures { self.new ≡ ease_linked 8 links.now (dropped self.old core task inputs) self.old core task }
     {

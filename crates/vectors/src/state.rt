@@ -27,7 +27,7 @@ pub(crate) struct TaskLinks {
     pub(crate) following: Option<u16>,
 }
 
-// So for every task that a table can have.
+// What depends on the table alone, of every task that a table can have.
 #[derive(Clone, Copy)]
 pub struct Links {
     pub(crate) tasks: [TaskLinks; 384],

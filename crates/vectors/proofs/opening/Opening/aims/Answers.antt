@@ -1,7 +1,6 @@
-use Rattle.std.proofs.Common.{◌≡◌, ℕ, ◌<◌, true, false, ◌&&◌, eqb, get_or, Some, None, Option, sym, ap, ◌∙◌, arith}
+use Rattle.std.proofs.Common.{◌≡◌, ℕ, ◌<◌, true, false, ◌&&◌, eqb, get_or, sym, ap, ◌∙◌, arith}
 use Rattle.std.proofs.lemmas.Bool.{eq-eqb, eqb-true, ne_eqb, and_left, and_right}
 use Rattle.std.proofs.lemmas.List.FromFn.{get_or-map-range_with_len}
-use Rattle.std.specs.Option.{option_eq}
 use Rattle.table.specs.Rows.{Plan, on, row}
 use Rattle.table.specs.Sets.{has, none, set_of}
 use Rattle.table.specs.View.{plan_of}
@@ -15,11 +14,6 @@ use Rattle.vectors.specs.declared.state.Links.{Links}
 use Rattle.vectors.proofs.Stands.{completer_at}
 use Rattle.vectors.proofs.opening.Opening.aims.Goals as goal
 use Rattle.vectors.proofs.opening.Opening.aims.Goals.{then-from-core, else-from-core}
-
--- is it the task, as the code asks it
-found : (x : ℕ) (a : Option ℕ) → option_eq eqb a (Some x) ≡ is_task x a
-found x None = cc
-found x (Some y) = grind arith
 
 -- what the opening holds of task i and core k of task x
 module _ (o : Opening) (x i k : ℕ) (l : i < 384) (own : k ≡ (row (plan_of o.table.now) x).core) where
@@ -49,7 +43,7 @@ returns-then-contains c = elim c.if-from-core.branch [
       let own : c.from-own.result ≡ (row p x).core = c.from-own.ensures ∙ ap (λ (r : Row). r.core) c.row.ensures.is in
       let a : on c.args.core (row p i) ≡ true = lies p i c.args.core c.from.result c.row-2.result c.row-2.ensures.is c.from.ensures ∙ eq-eqb c.from.result c.args.core w.if-from-core.true in
       let b : begins p i (row p x).core ≡ true = sym (ready_is o x i c.from-own.result c.requires own) ∙ (ap (λ n. has (get_or o.ready n none) c.from-own.result) (sym w.from-then-from-core.ensures) ∙ (sym w.contains.ensures ∙ (sym w.value-is ∙ c.if-contains.true))) in
-      let d = c.eq.ensures ∙ (ap (λ y. option_eq eqb y (Some x)) (c.completer.ensures ∙ completer_is o x i c.from-own.result c.requires own) ∙ found x (completer p i (row p x).core)) in
+      let d = c.eq.ensures ∙ ap (is_task x) (c.completer.ensures ∙ completer_is o x i c.from-own.result c.requires own) in
       d ∙ sym (ap (λ y. y && (begins p i (row p x).core && is_task x (completer p i (row p x).core))) a ∙ ap (λ y. y && is_task x (completer p i (row p x).core)) b)
   | else-from-core w ↦ absurd (w.if-from-core.false (eqb-true _ _ (sym w.value-is ∙ c.if-contains.true)))
 ]

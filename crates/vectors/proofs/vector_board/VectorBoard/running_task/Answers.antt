@@ -1,6 +1,10 @@
-use Rattle.std.proofs.Common.{sym, ◌∙◌}
-use Rattle.vectors.proofs.Stands.{none_if, none_running}
+use Rattle.std.proofs.Common.{rules}
+use borrow.Author.Tests.{tests}
+use Rattle.vectors.proofs.Stands.{tested, none_running}
 use Rattle.vectors.proofs.vector_board.VectorBoard.running_task.Goals as goal
 
-pub returns-in_err-task : goal.returns-in_err-task
-returns-in_err-task c = c.from_residual.ensures ∙ none_if _ c.args.self.now c.args.core (sym (none_running c.args.self.now c.args.core c.in_err-task.ensures))
+pub returns : goal.returns
+returns c =
+    let b = c.args.self.now in
+    let k = c.args.core in
+    tested b k _ c.next-next.result c.filter.result c.next-next.ensures _ (none_running b k) (λ t y d h. search (rules, tests)) c.filter.ensures

@@ -7,7 +7,7 @@ use Rattle.table.specs.View.{plan_of}
 use Rattle.table.specs.declared.lawful.Table.{Table}
 use Rattle.table.proofs.Tables.{task_at}
 use Rattle.vectors.specs.Links.{place, wait_before}
-use Rattle.vectors.proofs.opening.wait_before.Goals as goal
+use Rattle.vectors.proofs.opening.TaskOf.wait_before.Goals as goal
 
 -- the wait of the task before, if there is one: only the first task of a core has none
 waits : (t : Table) (x k : ℕ) (o : Option ℕ) → let p = plan_of t in o ≡ cond (eqb (place p x) 0) None (named (nth_on (row p x).core (place p x - 1) 0 p.rows)) →
@@ -25,6 +25,6 @@ waits t x k o h =
 
 pub returns : goal.returns
 returns c =
-    let p = plan_of c.args.table.now in
+    let p = plan_of c.args.self.now.table.now in
     let e : c.map_or.result ≡ option_map_or (λ b. wait p.rows (row p b) c.args.core) c.preceding.result 0 = search rules in
-    e ∙ waits c.args.table.now c.args.task c.args.core c.preceding.result c.preceding.ensures
+    e ∙ waits c.args.self.now.table.now c.args.self.now.task c.args.core c.preceding.result c.preceding.ensures
