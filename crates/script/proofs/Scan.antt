@@ -1,25 +1,38 @@
 -- What the patterns and the loop of the code read of a text.
-use Rattle.std.proofs.Common.{◌≡◌, ℕ, ◌^◌, ◌<◌, ◌≤◌, ◌==◌, not, true, false, List, [], ◌∷◌, length, get_or, Some, None, codes, sym, refl, ap, ◌∙◌, ⊎_elim, arith}
+use Rattle.std.proofs.Common.{◌≡◌, ℕ, suc, ◌+◌, cond, ◌^◌, ◌<◌, ◌≤◌, ◌==◌, Bool, not, true, false, drop, List, [], ◌∷◌, length, get_or, Some, None, codes, sym, refl, ap, ◌∙◌, ⊎_elim, arith}
 use native.Mathlib.Nat.{pow-le-pow_right}
-use Rattle.std.proofs.lemmas.Bool.{cond-false, cases_Bool}
+use Rattle.std.proofs.lemmas.Bool.{cond-true, cond-false, cases_Bool}
 use Rattle.std.proofs.lemmas.List.Recursion.{is_position_or_len}
 use Rattle.std.proofs.lemmas.List.Sums.{prefix_len-le-length}
-use Rattle.std.specs.List.{position}
+use Rattle.std.specs.List.{position, position_or_len}
 use Rattle.std.specs.Option.{unwrap_or}
-use Rattle.script.specs.Grammar.{word_length, is_digit, digits_value, number, same, read_command}
+use Rattle.script.specs.Grammar.{spaces_off, word_length, digits_value, number, same, read_command}
+
+-- the place of the first byte that passes a test, or the end
+first_or_end : (p : ℕ → Bool) (text : List ℕ) → unwrap_or (position p text) (length text) ≡ position_or_len p text
+first_or_end p text = grind (arith, prefix_len-le-length (λ b. not (p b)) text)
 
 -- the first space, or the end
 pub before_space : (text : List ℕ) → unwrap_or (position (λ b. b == 32) text) (length text) ≡ word_length text
-before_space text =
-    let e = is_position_or_len word_length (λ b. b == 32) refl (λ x xs. grind arith) text in
-    grind (arith, prefix_len-le-length (λ b. not (b == 32)) text)
+before_space text = first_or_end (λ b. b == 32) text ∙ sym (is_position_or_len word_length (λ b. b == 32) refl (λ x xs. grind arith) text)
+
+-- what stands from the first byte on that is no space
+from_dark : (text : List ℕ) → drop (position_or_len (λ b. not (b == 32)) text) text ≡ spaces_off text
+from_dark [] = refl
+from_dark (b ∷ bs) =
+    let place : ℕ = position_or_len (λ x. not (x == 32)) bs in
+    let more : 1 + place ≡ suc place = omega arith in
+    ⊎_elim
+    (λ e. ap (λ t. drop (cond (not (not t)) (1 + place) 0) (b ∷ bs)) e ∙ (ap (λ n. drop n (b ∷ bs)) more ∙ from_dark bs ∙ sym (cond-true (b == 32) (spaces_off bs) (b ∷ bs) e)))
+    (λ e. ap (λ t. drop (cond (not (not t)) (1 + place) 0) (b ∷ bs)) e ∙ sym (cond-false (b == 32) (spaces_off bs) (b ∷ bs) e))
+    (cases_Bool (b == 32))
+
+pub past_spaces : (text : List ℕ) → drop (unwrap_or (position (λ b. not (b == 32)) text) (length text)) text ≡ spaces_off text
+past_spaces text = ap (λ n. drop n text) (first_or_end (λ b. not (b == 32)) text) ∙ from_dark text
 
 -- what so many digits write leaves room for one more
 pub tens_below : (i : ℕ) → i < 9 → 10 ^ i ≤ 100000000
 tens_below i few = pow-le-pow_right {n = 10} (omega arith) {i = i} {j = 8} (omega arith)
-
-pub digit_true : (b : ℕ) → 48 ≤ b → b ≤ 57 → is_digit b ≡ true
-digit_true b low high = grind arith
 
 -- 1 to 9 bytes
 pub number_few : (word : List ℕ) → 1 ≤ length word → length word ≤ 9 → number word ≡ digits_value 0 word
