@@ -1,12 +1,12 @@
 -- A line is read as a call just where it writes that call.
 use Rattle.std.proofs.Common.{◌≡◌, ℕ, ◌≤◌, List, [], ◌∷◌, ◌++◌, length, Some, None, codes, Option, sym, refl, ap, ◌∙◌, subst, append-nil, arith, take-append-drop}
 use Rattle.std.proofs.lemmas.Option.{option_and_then_some}
+use Rattle.std.proofs.lemmas.Slice.Eq.{bytes_eq-Decides}
 use Rattle.calls.specs.declared.Call.{Call}
 use Rattle.calls.specs.declared.Call.TheVariants.{Ask, End}
 use Rattle.script.specs.declared.Line.TheVariants.{Play}
 use Rattle.script.specs.Grammar.{spaces_off, word_length, next_word, after_word, number, then, close, read_ask, read_end, read_command, read_call, play, read_short, read}
 use Rattle.script.specs.Lines.{AskLine, EndLine, Reads, ReadsExactly}
-use Rattle.script.proofs.Scan.{same_list}
 use Rattle.script.proofs.Parts.{Opens, opens_after, word_reads, part_reads, split}
 
 closed : (text : List ℕ) (call c : Call) → close text call ≡ Some c → (text ≡ []) × (call ≡ c)
@@ -54,7 +54,7 @@ command_sound line c dark fits h =
     let text = after_word line in
     let cut : word ++ text ≡ line = take-append-drop (word_length (spaces_off line)) (spaces_off line) ∙ dark in
     let opens = opens_after (spaces_off line) in
-    grind (arith, same_list word, ask_sound line text c opens, end_sound line text c opens)
+    grind (arith, (bytes_eq-Decides word (codes "ask")).0, (bytes_eq-Decides word (codes "end")).0, ask_sound line text c opens, end_sound line text c opens)
 
 short_sound : (line : List ℕ) (c : Call) → length line ≤ 80 → read_short line ≡ Play c → Reads line c
 short_sound [] c fits h = cc

@@ -1,9 +1,10 @@
 -- What the patterns and the loop of the code read of a text.
-use Rattle.std.proofs.Common.{◌≡◌, ℕ, suc, ◌+◌, cond, ◌^◌, ◌<◌, ◌≤◌, ◌==◌, Bool, not, true, false, drop, List, [], ◌∷◌, length, get_or, Some, None, codes, sym, refl, ap, ◌∙◌, ⊎_elim, arith}
+use Rattle.std.proofs.Common.{◌≡◌, ℕ, suc, ◌+◌, cond, ◌^◌, ◌<◌, ◌≤◌, ◌==◌, Bool, not, false, drop, List, [], ◌∷◌, length, get_or, Some, None, codes, sym, refl, ap, ◌∙◌, ⊎_elim, arith}
 use native.Mathlib.Nat.{pow-le-pow_right}
 use Rattle.std.proofs.lemmas.Bool.{cond-true, cond-false, cases_Bool}
 use Rattle.std.proofs.lemmas.List.Recursion.{is_position_or_len}
 use Rattle.std.proofs.lemmas.List.Sums.{prefix_len-le-length}
+use Rattle.std.proofs.lemmas.Slice.Eq.{text_from_reads, bytes_eq-Decides}
 use Rattle.std.specs.List.{position, position_or_len}
 use Rattle.std.specs.Option.{unwrap_or}
 use Rattle.script.specs.Grammar.{spaces_off, word_length, digits_value, number, same, read_command}
@@ -39,19 +40,8 @@ pub number_few : (word : List ℕ) → 1 ≤ length word → length word ≤ 9 �
 number_few word low high = grind arith
 
 -- a word of three bytes
-pub three : (w : List ℕ) (a b c : ℕ) → length w ≡ 3 → get_or w 0 0 ≡ a → get_or w 1 0 ≡ b → get_or w 2 0 ≡ c → w ≡ a ∷ b ∷ c ∷ []
-three [] a b c n x y z = absurd (omega arith)
-three (p ∷ []) a b c n x y z = absurd (omega arith)
-three (p ∷ q ∷ []) a b c n x y z = absurd (omega arith)
-three (p ∷ q ∷ r ∷ []) a b c n x y z = cc
-three (p ∷ q ∷ r ∷ s ∷ w) a b c n x y z = absurd (omega arith)
-
--- the same bytes are the same list
-pub same_list : (v w : List ℕ) → same v w ≡ true → v ≡ w
-same_list [] [] h = refl
-same_list [] (c ∷ cs) h = cc
-same_list (b ∷ bs) [] h = cc
-same_list (b ∷ bs) (c ∷ cs) h = grind (arith, same_list bs cs)
+three : (w : List ℕ) (a b c : ℕ) → length w ≡ 3 → get_or w 0 0 ≡ a → get_or w 1 0 ≡ b → get_or w 2 0 ≡ c → w ≡ a ∷ b ∷ c ∷ []
+three w a b c n x y z = text_from_reads w (a ∷ b ∷ c ∷ []) n (x, (y, (z, tt)))
 
 -- w is not the three bytes a, b, c
 abbrev pub NotThree : List ℕ → ℕ → ℕ → ℕ → Type 0
@@ -60,7 +50,7 @@ NotThree w a b c = length w ≡ 3 → get_or w 0 0 ≡ a → get_or w 1 0 ≡ b 
 not_same : (w : List ℕ) (a b c : ℕ) → NotThree w a b c → same w (a ∷ b ∷ c ∷ []) ≡ false
 not_same w a b c h =
     ⊎_elim
-    (λ yes_same. let e = same_list w (a ∷ b ∷ c ∷ []) yes_same in absurd (h (ap length e) (ap (λ l. get_or l 0 0) e) (ap (λ l. get_or l 1 0) e) (ap (λ l. get_or l 2 0) e)))
+    (λ yes_same. let e = (bytes_eq-Decides w (a ∷ b ∷ c ∷ [])).0 yes_same in absurd (h (ap length e) (ap (λ l. get_or l 0 0) e) (ap (λ l. get_or l 1 0) e) (ap (λ l. get_or l 2 0) e)))
     (λ differ. differ)
     (cases_Bool (same w (a ∷ b ∷ c ∷ [])))
 
