@@ -54,8 +54,8 @@ fn end_call(text: &[u8]) -> Option<Call>
     closed(text, Call::End { core, task, time })
 }
 
-// The call of a command word and of what follows it. The word is decided by character literals, a form that the project
-// asks for.
+// The call of a command word and of what follows it.
+// The word is decided by character literals, a form that the project asks for.
 #[tactic(auto, using(crate::proofs::Scan::command_none))]
 fn command_call(word: &[u8], text: &[u8]) -> Option<Call>
     ensures { result ≡ read_command word.now text.now }
