@@ -1,4 +1,5 @@
 ghost use Rattle.std.specs.Prelude.{◌≡◌, ◌≤◌, List, [], ℕ};
+ghost use Rattle.console.specs.declared.buffer.TheConstants.{MOST};
 
 // The most bytes that are kept. A longer line is bad whatever it holds, and so is one of just this length.
 const MOST: usize = 81;
@@ -6,10 +7,11 @@ const MOST: usize = 81;
 // The line so far, in fixed memory: as much of it as can matter.
 #[derive(Clone, Copy)]
 pub struct LineBuffer {
-    // Of these, the first `len` count. An `ArrayVec` would hold both, but it is not `Copy`.
+    // Of these, the first `len` count.
+    // An `ArrayVec` would hold both, but it is not `Copy`, and callers may copy a `LineBuffer`.
     pub(crate) bytes: [u8; MOST],
     pub(crate) len: usize,
-    ghost within: { len ≤ 81 },
+    ghost within: { len ≤ MOST },
 }
 
 impl LineBuffer {

@@ -41,28 +41,36 @@ pub fn reading(row: Row, bits: u8) -> Row {
     }
 }
 
-// A whole table.
-pub fn written(heap: Global, cores: u64, ticks: u64, rows: &[Row]) -> Result<Vec<u8>, AllocError> {
-    let mut bytes = Vec::new(heap);
-    bytes.extend_from_slice(&header(cores, rows.len() as u64, ticks))?;
-    for row in rows {
-        bytes.extend_from_slice(&row_bytes(*row))?;
-    }
-    Ok(bytes)
-}
-
-// A table of these rows.
-pub fn loaded(
-    rt: &impl Abort,
-    heap: Global,
+// A table as a test drafts it, lawful or not.
+#[derive(Clone, Copy)]
+pub struct Draft<'a> {
     cores: u64,
     ticks: u64,
-    rows: &[Row],
-) -> Result<Table, Fail> {
-    let bytes = written(heap, cores, ticks, rows)?;
-    let mut table = Table::new();
-    assert!(rt; table.load(bytes.as_slice()).is_ok());
-    Ok(table)
+    rows: &'a [Row],
+}
+
+impl Draft<'_> {
+    pub fn new(cores: u64, ticks: u64, rows: &[Row]) -> Draft<'_> {
+        Draft { cores, ticks, rows }
+    }
+
+    // The bytes of the whole table.
+    pub fn written(self, heap: Global) -> Result<Vec<u8>, AllocError> {
+        let mut bytes = Vec::new(heap);
+        bytes.extend_from_slice(&header(self.cores, self.rows.len() as u64, self.ticks))?;
+        for row in self.rows {
+            bytes.extend_from_slice(&row_bytes(*row))?;
+        }
+        Ok(bytes)
+    }
+
+    // The table, which has to be lawful.
+    pub fn loaded(self, rt: &impl Abort, heap: Global) -> Result<Table, Fail> {
+        let bytes = self.written(heap)?;
+        let mut table = Table::new();
+        assert!(rt; table.load(bytes.as_slice()).is_ok());
+        Ok(table)
+    }
 }
 
 // The worked example: 3 cores, a frame of 80 ticks, every claim 10, no data bit.
@@ -79,4 +87,9 @@ pub fn example() -> [Row; 10] {
         row(2, 0, 40),
         row(2, 40, 60),
     ]
+}
+
+// The table of the worked example.
+pub fn example_table(rt: &impl Abort, heap: Global) -> Result<Table, Fail> {
+    Draft::new(3, 80, &example()).loaded(rt, heap)
 }

@@ -1,5 +1,5 @@
 // Frames on the worked example, on both boards and under each rule, and at the edges of their calls.
-use crate::bytes::{example, loaded, reading, row};
+use crate::bytes::{Draft, example_table, reading, row};
 use board::Board;
 use board::cores::Step;
 use board::count::CountBoard;
@@ -74,7 +74,7 @@ fn then_asked<B: Board + Drop, R: Rule + Drop>(
     time: u32,
     answer: Answer,
 ) -> Result<(), Fail> {
-    let table = loaded(rt, heap, 3, 80, &example())?;
+    let table = example_table(rt, heap)?;
     let mut frame = Frame::open(&table, board, rule);
     replies(rt, &mut frame, &ahead());
     assert_eq!(rt; frame.ask(1, time), Ok(answer));
@@ -83,7 +83,7 @@ fn then_asked<B: Board + Drop, R: Rule + Drop>(
 
 // The whole example on a board: what runs loose is in the sums until it has ended.
 fn whole_example<B: Board + Drop>(rt: &impl Abort, heap: Global, board: B) -> Result<(), Fail> {
-    let table = loaded(rt, heap, 3, 80, &example())?;
+    let table = example_table(rt, heap)?;
     let mut frame = Frame::open(&table, board, BySlack);
     replies(rt, &mut frame, &ahead());
     assert_eq!(rt; frame.sums(9), Ok((Some(31), 0, 0)));
@@ -147,7 +147,7 @@ fn a_loose_task_waits_for_its_data(rt: HostRuntime) -> Result<(), Fail> {
         row(2, 20, 40),
         reading(row(1, 50, 60), 0b001),
     ];
-    let table = loaded(&rt, rt.alloc(), 3, 60, &rows)?;
+    let table = Draft::new(3, 60, &rows).loaded(&rt, rt.alloc())?;
     let mut frame = Frame::open(&table, VectorBoard::new(), BySlack);
     replies(
         &rt,
@@ -173,7 +173,7 @@ fn a_loose_task_waits_for_its_data(rt: HostRuntime) -> Result<(), Fail> {
 
 #[test]
 fn a_report_fills_the_front_of_the_list(rt: HostRuntime) -> Result<(), Fail> {
-    let table = loaded(&rt, rt.alloc(), 3, 80, &example())?;
+    let table = example_table(&rt, rt.alloc())?;
     let mut frame = Frame::open(&table, VectorBoard::new(), BySlack);
     replies(&rt, &mut frame, &ahead());
     replies(&rt, &mut frame, &[ask(1, 9, Answer::Loose(6))]);
@@ -213,7 +213,7 @@ fn a_report_fills_the_front_of_the_list(rt: HostRuntime) -> Result<(), Fail> {
 
 #[test]
 fn refusals_in_their_order(rt: HostRuntime) -> Result<(), Fail> {
-    let table = loaded(&rt, rt.alloc(), 3, 80, &example())?;
+    let table = example_table(&rt, rt.alloc())?;
     let mut frame = Frame::open(&table, VectorBoard::new(), BySlack);
     assert_eq!(rt; frame.ask(3, 268_435_456), Err(Refusal::NoSuchCore));
     assert_eq!(rt; frame.finish(4_294_967_295, 0, 0), Err(Refusal::NoSuchCore));
@@ -249,7 +249,7 @@ fn a_frame_on_an_empty_table(rt: HostRuntime) {
 
 #[test]
 fn a_list_of_calls_is_played(rt: HostRuntime) -> Result<(), Fail> {
-    let table = loaded(&rt, rt.alloc(), 3, 80, &example())?;
+    let table = example_table(&rt, rt.alloc())?;
     let mut counted = ahead().map(|event| Event::new(event.call));
     let mut noticed = counted;
     let left = play(&table, CountBoard::new(), BySlack, &mut counted);

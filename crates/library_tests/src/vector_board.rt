@@ -1,23 +1,17 @@
 // The vector board on the example table, and on a table where one wait is handed on twice.
-use crate::bytes::{example, loaded, row};
+use crate::bytes::{Draft, example_table, row};
 use board::Board;
-use std::alloc::Global;
 use std::process::Abort;
 use std::test::Fail;
-use table::rows::{CoreSet, Row};
+use table::lawful::Table;
+use table::rows::CoreSet;
 use vectors::vector_board::VectorBoard;
 
-// A board that is open on a table of these rows.
-fn opened(
-    rt: &impl Abort,
-    heap: Global,
-    cores: u64,
-    ticks: u64,
-    rows: &[Row],
-) -> Result<VectorBoard, Fail> {
+// A board that is open on the table.
+fn opened(table: &Table) -> VectorBoard {
     let mut board = VectorBoard::new();
-    board.open(&loaded(rt, heap, cores, ticks, rows)?);
-    Ok(board)
+    board.open(table);
+    board
 }
 
 // The core starts its next task and ends it.
@@ -28,7 +22,7 @@ fn runs(rt: &impl Abort, board: &mut VectorBoard, core: u32) {
 
 #[test]
 fn first_vectors_of_the_example(rt: HostRuntime) -> Result<(), Fail> {
-    let board = opened(&rt, rt.alloc(), 3, 80, &example())?;
+    let board = opened(&example_table(&rt, rt.alloc())?);
     assert_eq!(rt; board.ready(7), CoreSet { bits: 0b001 });
     assert_eq!(rt; board.ready(2), CoreSet::NONE);
     assert_eq!(rt; board.ready(6), CoreSet { bits: 0b101 });
@@ -44,7 +38,7 @@ fn first_vectors_of_the_example(rt: HostRuntime) -> Result<(), Fail> {
 
 #[test]
 fn the_example_eased_at_task_6(rt: HostRuntime) -> Result<(), Fail> {
-    let mut board = opened(&rt, rt.alloc(), 3, 80, &example())?;
+    let mut board = opened(&example_table(&rt, rt.alloc())?);
     for core in 0..3 {
         runs(&rt, &mut board, core);
     }
@@ -86,7 +80,7 @@ fn a_wait_handed_on_twice(rt: HostRuntime) -> Result<(), Fail> {
         row(0, 110, 120),
         row(0, 120, 130),
     ];
-    let mut board = opened(&rt, rt.alloc(), 2, 130, &rows)?;
+    let mut board = opened(&Draft::new(2, 130, &rows).loaded(&rt, rt.alloc())?);
     assert_eq!(rt; board.ready(1), CoreSet { bits: 0b10 });
     assert_eq!(rt; board.ready(2), CoreSet::NONE);
     assert!(rt; board.start(1));
@@ -106,7 +100,7 @@ fn a_wait_handed_on_twice(rt: HostRuntime) -> Result<(), Fail> {
 
 #[test]
 fn orders_out_of_step_change_nothing(rt: HostRuntime) -> Result<(), Fail> {
-    let mut board = opened(&rt, rt.alloc(), 3, 80, &example())?;
+    let mut board = opened(&example_table(&rt, rt.alloc())?);
     assert!(rt; !board.end(0));
     assert!(rt; !board.ease(0));
     assert!(rt; !board.start(3));

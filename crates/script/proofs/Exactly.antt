@@ -1,22 +1,13 @@
 -- A line is read as a call just where it writes that call.
 use Rattle.std.proofs.Common.{◌≡◌, ℕ, ◌≤◌, List, [], ◌∷◌, ◌++◌, length, Some, None, codes, Option, sym, refl, ap, ◌∙◌, subst, append-nil, arith, take-append-drop}
+use Rattle.std.proofs.lemmas.Option.{option_and_then_some}
+use Rattle.std.proofs.lemmas.Slice.Eq.{bytes_eq-Decides}
 use Rattle.calls.specs.declared.Call.{Call}
 use Rattle.calls.specs.declared.Call.TheVariants.{Ask, End}
 use Rattle.script.specs.declared.Line.TheVariants.{Play}
 use Rattle.script.specs.Grammar.{spaces_off, word_length, next_word, after_word, number, then, close, read_ask, read_end, read_command, read_call, play, read_short, read}
 use Rattle.script.specs.Lines.{AskLine, EndLine, Reads, ReadsExactly}
-use Rattle.script.proofs.Scan.{same_list}
 use Rattle.script.proofs.Parts.{Opens, opens_after, word_reads, part_reads, split}
-
--- a chain of choices that came to a value made each choice
-record Chosen {A B : Type 0} (o : Option A) (f : A → Option B) (y : B) : Type 0 where
-  got : A
-  is : o ≡ Some got
-  goes : f got ≡ Some y
-
-chosen : {A B : Type 0} (o : Option A) (f : A → Option B) (y : B) → then o f ≡ Some y → Chosen o f y
-chosen None f y h = cc
-chosen (Some x) f y h = record { got = x; is = refl; goes = h }
 
 closed : (text : List ℕ) (call c : Call) → close text call ≡ Some c → (text ≡ []) × (call ≡ c)
 closed [] call c h = (refl, cc)
@@ -35,26 +26,26 @@ ask_sound : (line text : List ℕ) (c : Call) → Opens text → line ≡ codes 
 ask_sound line text c opens whole fits h =
     let t2 = after_word text in
     let t3 = after_word t2 in
-    let a = chosen (number (next_word text)) (λ core. then (number (next_word t2)) (λ time. close t3 (Ask core time))) c h in
-    let p = split text a.got opens a.is in
-    let b = chosen (number (next_word t2)) (λ time. close t3 (Ask a.got time)) c a.goes in
-    let q = split t2 b.got p.opens b.is in
-    let e = closed t3 (Ask a.got b.got) c b.goes in
-    subst (Reads line) e.1 (record { core_part = p.part; time_part = q.part; whole = cc (p.whole, last_part t2 q.part t3 q.whole e.0); of_core = p.numbered; of_time = q.numbered; fits = fits })
+    option_and_then_some (λ core. then (number (next_word t2)) (λ time. close t3 (Ask core time))) (number (next_word text)) c h (λ core a goes.
+    let p = split text core opens a in
+    option_and_then_some (λ time. close t3 (Ask core time)) (number (next_word t2)) c goes (λ time b last.
+    let q = split t2 time p.opens b in
+    let e = closed t3 (Ask core time) c last in
+    subst (Reads line) e.1 (record { core_part = p.part; time_part = q.part; whole = cc (p.whole, last_part t2 q.part t3 q.whole e.0); of_core = p.numbered; of_time = q.numbered; fits = fits })))
 
 end_sound : (line text : List ℕ) (c : Call) → Opens text → line ≡ codes "end" ++ text → length line ≤ 80 → read_end text ≡ Some c → Reads line c
 end_sound line text c opens whole fits h =
     let t2 = after_word text in
     let t3 = after_word t2 in
     let t4 = after_word t3 in
-    let a = chosen (number (next_word text)) (λ core. then (number (next_word t2)) (λ task. then (number (next_word t3)) (λ time. close t4 (End core task time)))) c h in
-    let p = split text a.got opens a.is in
-    let b = chosen (number (next_word t2)) (λ task. then (number (next_word t3)) (λ time. close t4 (End a.got task time))) c a.goes in
-    let q = split t2 b.got p.opens b.is in
-    let d = chosen (number (next_word t3)) (λ time. close t4 (End a.got b.got time)) c b.goes in
-    let r = split t3 d.got q.opens d.is in
-    let e = closed t4 (End a.got b.got d.got) c d.goes in
-    subst (Reads line) e.1 (record { core_part = p.part; task_part = q.part; time_part = r.part; whole = cc (p.whole, q.whole, last_part t3 r.part t4 r.whole e.0); of_core = p.numbered; of_task = q.numbered; of_time = r.numbered; fits = fits })
+    option_and_then_some (λ core. then (number (next_word t2)) (λ task. then (number (next_word t3)) (λ time. close t4 (End core task time)))) (number (next_word text)) c h (λ core a goes.
+    let p = split text core opens a in
+    option_and_then_some (λ task. then (number (next_word t3)) (λ time. close t4 (End core task time))) (number (next_word t2)) c goes (λ task b more.
+    let q = split t2 task p.opens b in
+    option_and_then_some (λ time. close t4 (End core task time)) (number (next_word t3)) c more (λ time d last.
+    let r = split t3 time q.opens d in
+    let e = closed t4 (End core task time) c last in
+    subst (Reads line) e.1 (record { core_part = p.part; task_part = q.part; time_part = r.part; whole = cc (p.whole, q.whole, last_part t3 r.part t4 r.whole e.0); of_core = p.numbered; of_task = q.numbered; of_time = r.numbered; fits = fits }))))
 
 -- the command word stands first
 command_sound : (line : List ℕ) (c : Call) → spaces_off line ≡ line → length line ≤ 80 → read_call line ≡ Some c → Reads line c
@@ -63,7 +54,7 @@ command_sound line c dark fits h =
     let text = after_word line in
     let cut : word ++ text ≡ line = take-append-drop (word_length (spaces_off line)) (spaces_off line) ∙ dark in
     let opens = opens_after (spaces_off line) in
-    grind (arith, same_list word, ask_sound line text c opens, end_sound line text c opens)
+    grind (arith, (bytes_eq-Decides word (codes "ask")).0, (bytes_eq-Decides word (codes "end")).0, ask_sound line text c opens, end_sound line text c opens)
 
 short_sound : (line : List ℕ) (c : Call) → length line ≤ 80 → read_short line ≡ Play c → Reads line c
 short_sound [] c fits h = cc

@@ -1,5 +1,6 @@
 -- What a line of a script says. A byte is a number: 32 is the space, 35 is #, 48 to 57 are the digits.
-use Rattle.std.specs.Prelude.{ℕ, suc, ◌+◌, ◌-◌, ◌*◌, Bool, true, false, cond, ◌&&◌, List, [], ◌∷◌, length, take, drop, Some, None, codes, Option, ◌==◌, nat_le}
+use Rattle.std.specs.Prelude.{ℕ, suc, ◌+◌, ◌-◌, ◌*◌, Bool, cond, ◌&&◌, List, [], ◌∷◌, length, take, drop, Some, None, codes, Option, option_and_then, ◌==◌, nat_le}
+use Rattle.std.specs.Str.{bytes_eq}
 use Rattle.calls.specs.declared.Call.{Call}
 use Rattle.calls.specs.declared.Call.TheVariants.{Ask, End}
 use Rattle.script.specs.declared.Line.{Line}
@@ -38,15 +39,11 @@ number word = cond (nat_le 1 (length word) && nat_le (length word) 9) (digits_va
 
 -- go on with a value, if there is one
 abbrev pub then : {A B : Type 0} → Option A → (A → Option B) → Option B
-then None next = None
-then (Some x) next = next x
+then o next = option_and_then next o
 
 -- the same bytes
 abbrev pub same : List ℕ → List ℕ → Bool
-same [] [] = true
-same [] (c ∷ cs) = false
-same (b ∷ bs) [] = false
-same (b ∷ bs) (c ∷ cs) = b == c && same bs cs
+same bs cs = bytes_eq bs cs
 
 -- the call, if nothing stands after its last word
 abbrev pub close : List ℕ → Call → Option Call

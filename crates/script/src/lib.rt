@@ -55,6 +55,7 @@ fn end_call(text: &[u8]) -> Option<Call>
 }
 
 // The call of a command word and of what follows it.
+// The word is decided by character literals, a form that the project asks for.
 #[tactic(auto, using(crate::proofs::Scan::command_none))]
 fn command_call(word: &[u8], text: &[u8]) -> Option<Call>
     ensures { result ≡ read_command word.now text.now }
@@ -79,7 +80,7 @@ fn line_call(line: &[u8]) -> Option<Call>
 
 // What a line that is not too long asks for, by its first byte.
 fn short_line(line: &[u8]) -> Line
-    requires { length line.now ≤ 80 }
+    requires { length line.now ≤ LONGEST }
     ensures { result ≡ read line.now }
 {
     match line {

@@ -18,10 +18,11 @@ const MOST_DIGITS: usize = 9;
 fn without_spaces(text: &[u8]) -> &[u8]
     ensures { result.now ≡ spaces_off text.now }
 {
-    match text {
-        [b' ', rest @ ..] => without_spaces(rest),
-        _ => text,
-    }
+    let spaces = text
+        .iter()
+        .position(|byte| *byte != b' ')
+        .unwrap_or(text.len());
+    &text[spaces..]
 }
 
 // How many bytes stand before the next space, or before the end.
@@ -37,7 +38,7 @@ fn word_len(text: &[u8]) -> usize
 // The number that the bytes write, if all of them are digits.
 #[tactic(auto, using(crate::proofs::Scan::tens_below))]
 fn digits_number(digits: &[u8]) -> Option<u32>
-    requires { length digits.now ≤ 9 }
+    requires { length digits.now ≤ MOST_DIGITS }
     ensures { result ≡ digits_value 0 digits.now }
 {
     let mut value = 0;

@@ -11,3 +11,4 @@ pub mod Tables
 pub mod Ordered
 pub mod FromFn
 pub mod Ranges
+pub mod Folds

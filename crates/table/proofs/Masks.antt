@@ -1,21 +1,29 @@
 -- The masks of the code are the set operations.
-use Rattle.std.proofs.Common.{◌≡◌, ℕ, ◌-◌, ◌*◌, ◌%◌, ◌^◌, ◌<◌, ◌≤◌, Bool, true, not, ◌&&◌, ◌||◌, eqb, min, w8, sym, ap, ◌∙◌, ⊎_elim, arith}
+use Rattle.std.proofs.Common.{◌≡◌, ℕ, ◌-◌, ◌*◌, ◌%◌, ◌^◌, ◌<◌, ◌≤◌, Bool, true, not, ◌&&◌, ◌||◌, eqb, min, max, w8, sym, ap, ◌∙◌, ⊎_elim, arith}
 use lib.Bits.{bit_and, bit_or, and_le_r, and_le_l, or_lt}
-use Rattle.std.proofs.lemmas.Bool.{cases_Bool, cases_eq, eq-eqb, ne_eqb, or_left, both_ways}
+use Rattle.std.proofs.lemmas.Bool.{cases_Bool, cases_eq, eq-eqb, ne_eqb, both_ways}
 use Rattle.std.proofs.lemmas.Bool.Decides.{nat_tests}
-use Rattle.std.proofs.lemmas.Nat.Bits.{bit_at-lt, bit_at_and, bit_at_not, bit_at_set_same, bit_at_set_other, bit_at_clear_same, bit_at_clear_other, same_from_bits_below}
+use Rattle.std.proofs.lemmas.Nat.Bits.{bit_at-lt, bit_at_and, bit_at_or, bit_at_not, bit_at-pow_same, bit_at-pow_other, same_from_bits_below}
+use Rattle.std.proofs.Math.Bool.{or_comm, and_comm}
+use Rattle.std.proofs.Math.Pow.{pow-lt}
 use Rattle.std.specs.Int.{bit_at}
 use Rattle.table.specs.Sets.{bit, has, bits_of, set_of, with, without, less, includes}
 use Rattle.table.specs.declared.rows.CoreSet.{CoreSet}
 use Rattle.table.proofs.Below.{all_at, all_from}
 use Rattle.table.proofs.Sets.{bits_below, set_at}
 
--- a bit of a conjunction, of a complement
+-- a bit of a conjunction, of a disjunction, of a complement
 both : (a b : ℕ) → a < 2 → b < 2 → eqb (min a b) 1 ≡ (eqb a 1 && eqb b 1)
 both a b l m = grind (arith, nat_tests)
 
-bit_of_and : (x y k : ℕ) → bit (bit_and x y) k ≡ (bit x k && bit y k)
+pub bit_of_and : (x y k : ℕ) → bit (bit_and x y) k ≡ (bit x k && bit y k)
 bit_of_and x y k = ap (λ z. eqb z 1) (bit_at_and x y k) ∙ both (bit_at x k) (bit_at y k) (bit_at-lt x k) (bit_at-lt y k)
+
+either : (a b : ℕ) → a < 2 → b < 2 → eqb (max a b) 1 ≡ (eqb a 1 || eqb b 1)
+either a b l m = grind (arith, nat_tests)
+
+pub bit_of_or : (x y k : ℕ) → bit (bit_or x y) k ≡ (bit x k || bit y k)
+bit_of_or x y k = ap (λ z. eqb z 1) (bit_at_or x y k) ∙ either (bit_at x k) (bit_at y k) (bit_at-lt x k) (bit_at-lt y k)
 
 other : (a : ℕ) → a < 2 → eqb (1 - a) 1 ≡ not (eqb a 1)
 other a l = grind (arith, nat_tests)
@@ -35,26 +43,29 @@ pub set_is : (s : CoreSet) (f : ℕ → Bool) → s.bits < 2 ^ 8 → ((j : ℕ) 
 unfolding set_of
 set_is s f l h = ap (λ b. record { bits = b }) (same_bits s.bits (bits_of 8 f) l (bits_below 8 f) (λ j m. h j m ∙ sym (set_at f j m)))
 
+-- the byte of one bit
+one_bit : (k : ℕ) → k < 8 → (j : ℕ) → bit ((1 * 2 ^ k) % 256) j ≡ eqb j k
+one_bit k h j =
+    let whole : (1 * 2 ^ k) % 256 ≡ 2 ^ k = omega (arith, pow-lt {i = k} {j = 8} h) in
+    ap (λ v. bit v j) whole ∙ ⊎_elim
+    (λ e. ap (bit (2 ^ k)) e ∙ (ap (λ z. eqb z 1) (bit_at-pow_same k) ∙ sym (eq-eqb j k e)))
+    (λ e. ap (λ z. eqb z 1) (bit_at-pow_other k j e) ∙ sym (ne_eqb j k e))
+    (cases_eq j k)
+
 -- what the methods of a set of cores make of its byte
 module _ (s : CoreSet) (l : s.bits < 2 ^ 8) where
   pub with_mask : (k : ℕ) → k < 8 → record { bits = bit_or s.bits ((1 * 2 ^ k) % 256) } ≡ with s k
   with_mask k h =
-      let set : ℕ = bit_or s.bits ((1 * 2 ^ k) % 256) in
-      set_is (record { bits = set }) (λ j. eqb j k || has s j) (or_lt 8 s.bits ((1 * 2 ^ k) % 256) l (omega arith)) (λ j m. ⊎_elim
-      (λ e. ap (bit set) e ∙ (eq-eqb _ 1 (bit_at_set_same w8 s.bits k h) ∙ sym (or_left (eqb j k) (has s j) (eq-eqb j k e))))
-      (λ e. ap (λ z. eqb z 1) (bit_at_set_other w8 s.bits k h j e) ∙ sym (ap (λ b. b || has s j) (ne_eqb j k e)))
-      (cases_eq j k))
+      set_is (record { bits = bit_or s.bits ((1 * 2 ^ k) % 256) }) (λ j. eqb j k || has s j) (or_lt 8 s.bits ((1 * 2 ^ k) % 256) l (omega arith))
+      (λ j m. bit_of_or s.bits ((1 * 2 ^ k) % 256) j ∙ (ap (λ b. has s j || b) (one_bit k h j) ∙ or_comm (has s j) (eqb j k)))
 
   pub with_far : (k : ℕ) → 8 ≤ k → s ≡ with s k
   with_far k h = set_is s (λ j. eqb j k || has s j) l (λ j m. sym (ap (λ b. b || has s j) (ne_eqb j k (λ e. omega arith))))
 
   pub without_mask : (k : ℕ) → k < 8 → record { bits = bit_and s.bits (255 - (1 * 2 ^ k) % 256) } ≡ without s k
   without_mask k h =
-      let cut : ℕ = bit_and s.bits (255 - (1 * 2 ^ k) % 256) in
-      set_is (record { bits = cut }) (λ j. not (eqb j k) && has s j) (omega (arith, l, and_le_l s.bits (255 - (1 * 2 ^ k) % 256))) (λ j m. ⊎_elim
-      (λ e. ap (bit cut) e ∙ (ap (λ z. eqb z 1) (bit_at_clear_same w8 s.bits k h) ∙ sym (ap (λ b. not b && has s j) (eq-eqb j k e))))
-      (λ e. ap (λ z. eqb z 1) (bit_at_clear_other w8 s.bits k h j m e) ∙ sym (ap (λ b. not b && has s j) (ne_eqb j k e)))
-      (cases_eq j k))
+      set_is (record { bits = bit_and s.bits (255 - (1 * 2 ^ k) % 256) }) (λ j. not (eqb j k) && has s j) (omega (arith, l, and_le_l s.bits (255 - (1 * 2 ^ k) % 256)))
+      (λ j m. bit_of_and s.bits (255 - (1 * 2 ^ k) % 256) j ∙ (ap (λ b. has s j && b) (bit_of_not ((1 * 2 ^ k) % 256) j (omega arith) m ∙ ap not (one_bit k h j)) ∙ and_comm (has s j) (not (eqb j k))))
 
   pub without_far : (k : ℕ) → 8 ≤ k → s ≡ without s k
   without_far k h = set_is s (λ j. not (eqb j k) && has s j) l (λ j m. sym (ap (λ b. not b && has s j) (ne_eqb j k (λ e. omega arith))))

@@ -3,8 +3,7 @@ use Rattle.std.proofs.Common.{◌≡◌, ℕ, ◌<◌, ◌≤◌, length, Some, 
 use Rattle.std.proofs.lemmas.Bool.{cases_lt}
 use Rattle.table.specs.Rows.{Plan, nothing, row, named, nth_on, tasks_on}
 use Rattle.table.specs.Lawful.{EmptyOrLawful}
-use Rattle.table.proofs.Places.{nth_none}
-use Rattle.table.proofs.Tables.{named_small, named_some, nth_within}
+use Rattle.table.proofs.Places.{nth_none, nth_within, named_small, named_some}
 
 -- few cores and rows, each row on a core of it, each span forwards, no row before the end of an earlier row on its core
 pub record Ordered (p : Plan) : Type 0 where
@@ -41,11 +40,4 @@ module _ (p : Plan) (o : Ordered p) (k n : ℕ) where
   some_nth t e = ⊎_elim
       (λ h. let i = named_some _ t e in (i, subst (λ u. u < length p.rows) i (nth_within k n p.rows h)))
       (λ h. let z : Some t ≡ None = sym e ∙ nth_past h in cc)
-      (cases_lt n (tasks_on p.rows k))
-
-  -- where no task is named, the number is past all rows
-  pub none_nth : named (nth_on k n 0 p.rows) ≡ None → length p.rows ≤ nth_on k n 0 p.rows
-  none_nth e = ⊎_elim
-      (λ h. let z : Some (nth_on k n 0 p.rows) ≡ None = sym (nth_some h) ∙ e in cc)
-      (λ h. omega (arith, nth_none k n 0 p.rows h, o.short))
       (cases_lt n (tasks_on p.rows k))

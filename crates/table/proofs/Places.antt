@@ -1,10 +1,10 @@
 -- Places of tasks on their cores: the (n+1)th row of a core, and how many rows of a core a task waits for.
-use Rattle.std.proofs.Common.{◌≡◌, ℕ, zero, suc, ◌+◌, ◌<◌, ◌≤◌, Bool, true, false, cond, List, [], ◌∷◌, length, get_or, take, count_by, refl, ◌∙◌, subst, ⊎_elim, arith}
-use Rattle.std.proofs.lemmas.List.Sums.{sum_by-cons, sum_by-take-le, count_by_more_yes}
+use Rattle.std.proofs.Common.{◌≡◌, ℕ, zero, suc, ◌+◌, ◌<◌, ◌≤◌, Bool, true, false, cond, List, [], ◌∷◌, length, get_or, take, count_by, Some, refl, ◌∙◌, subst, ⊎_elim, arith}
+use Rattle.std.proofs.lemmas.List.Sums.{sum_by-cons, sum_by-take-le, sum_by-le-sum_by, count_by_more_yes}
 use Rattle.std.proofs.lemmas.List.{take-take}
 use Rattle.std.proofs.lemmas.Bool.{cases_Bool, eqb-true}
 use Rattle.std.proofs.lemmas.Bool.Decides.{nat_tests}
-use Rattle.table.specs.Rows.{blank, on, ends_by, no_task, tasks_on, nth_on}
+use Rattle.table.specs.Rows.{blank, on, ends_by, no_task, named, tasks_on, nth_on}
 use Rattle.table.specs.declared.rows.Row.{Row}
 
 -- how many rows of core k stand before row t
@@ -12,7 +12,7 @@ abbrev pub before : ℕ → List Row → ℕ → ℕ
 before k rows t = count_by (on k) (take t rows)
 
 -- a count, one element further left
-count_one : {X : Type 0} (p : X → Bool) (x : X) (xs : List X) → count_by p (x ∷ xs) ≡ cond (p x) 1 0 + count_by p xs
+pub count_one : {X : Type 0} (p : X → Bool) (x : X) (xs : List X) → count_by p (x ∷ xs) ≡ cond (p x) 1 0 + count_by p xs
 count_one p x xs = sum_by-cons (λ y. cond (p y) 1 0) x xs
 
 pub count_yes : {X : Type 0} (p : X → Bool) (x : X) (xs : List X) → p x ≡ true → count_by p (x ∷ xs) ≡ suc (count_by p xs)
@@ -49,6 +49,17 @@ nth_none k zero i [] h = refl
 nth_none k (suc n) i [] h = refl
 nth_none k zero i (r ∷ rs) h = grind (arith, nat_tests, nth_none k zero (suc i) rs, count_one (on k) r rs)
 nth_none k (suc n) i (r ∷ rs) h = grind (arith, nat_tests, nth_none k n (suc i) rs, nth_none k (suc n) (suc i) rs, count_one (on k) r rs)
+
+-- a place that is taken names a row
+pub nth_within : (k n : ℕ) (rows : List Row) → n < tasks_on rows k → nth_on k n 0 rows < length rows
+nth_within k n rows h = let f = nth_found k n 0 rows h in omega (arith, f.is, f.within)
+
+-- a number below 511 names a task, and none but that
+pub named_small : (t : ℕ) → t < 511 → named t ≡ Some t
+named_small t l = grind (arith, nat_tests)
+
+pub named_some : (n t : ℕ) → named n ≡ Some t → n ≡ t
+named_some n t h = grind (arith, nat_tests)
 
 -- a core on which no row lies has no tasks
 pub none_on : (k : ℕ) (rows : List Row) → ((t : ℕ) → t < length rows → (get_or rows t blank).core ≡ k → ⊥) → tasks_on rows k ≡ 0
@@ -97,5 +108,4 @@ counts k s (r ∷ rs) up (suc a) h c l = grind (arith, nat_tests, counts k s rs 
 
 -- a wait counts no more than the tasks of its core
 pub wait_le : (k s : ℕ) (rows : List Row) → count_by (ends_by k s) rows ≤ tasks_on rows k
-wait_le k s [] = omega arith
-wait_le k s (r ∷ rs) = grind (arith, nat_tests, wait_le k s rs, count_one (ends_by k s) r rs, count_one (on k) r rs)
+wait_le k s rows = sum_by-le-sum_by (λ r. cond (ends_by k s r) 1 0) (λ r. cond (on k r) 1 0) rows (λ r. grind (arith, nat_tests))

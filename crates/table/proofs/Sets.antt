@@ -36,10 +36,6 @@ pub set_at : (f : ℕ → Bool) (j : ℕ) → j < 8 → has (set_of f) j ≡ f j
 unfolding set_of
 set_at f j l = bits_at 8 f j l
 
-pub set_past : (f : ℕ → Bool) (j : ℕ) → 8 ≤ j → has (set_of f) j ≡ false
-unfolding set_of
-set_past f j l = ap (λ x. eqb x 1) (bit_at_above (bits_of 8 f) 8 j (bits_below 8 f) l)
-
 pub has_none : (k : ℕ) → has none k ≡ false
 has_none k = grind (arith, nat_tests)
 

@@ -13,7 +13,9 @@ use Rattle.table.specs.View.{plan_of}
 use Rattle.table.specs.declared.rows.Row.{Row}
 use Rattle.table.specs.declared.faults.Fault.{Fault}
 use Rattle.table.specs.declared.lawful.Table.{Table}
-use Rattle.table.proofs.Places.{nth_found, nth_none, none_on, count_yes as count_in, count_no as count_out}
+pub use Rattle.table.proofs.Places.{nth_within, named_small, named_some}
+use Rattle.table.proofs.Places.{none_on, count_yes as count_in, count_no as count_out}
+use Rattle.table.proofs.Ordered.{Ordered, ordered, nth_some, nth_past}
 use Rattle.table.proofs.Verdict.{lawful_from}
 
 -- the widths of one row, of all rows, of a plan
@@ -67,6 +69,10 @@ parts t = sound_parts t.header.cores t.header.tasks t.header.ticks t.rows t.ok
 pub table_sound : (t : Table) → EmptyOrLawful (plan_of t)
 table_sound t = ⊎_elim (λ e. inl e) (λ h. inr (h.0, lawful_from (plan_of t) h.0.each h.1)) (parts t).either
 
+-- so its plan is in order
+table_ordered : (t : Table) → Ordered (plan_of t)
+table_ordered t = ordered (plan_of t) (table_sound t)
+
 -- what holds of the empty plan, and of each that fits
 of_plan : (t : Table) (P : Plan → Type 0) → P nothing → (Fits (plan_of t) → P (plan_of t)) → P (plan_of t)
 of_plan t P n f = ⊎_elim (λ e. subst P (sym e) n) (λ h. f h.0) (parts t).either
@@ -86,13 +92,13 @@ pub core_below : (t : Table) (n : ℕ) → (row (plan_of t) n).core < 8
 core_below t n = of_plan t (λ (p : Plan). (row p n).core < 8) (omega arith) (λ f. of_row (plan_of t).rows (λ (r : Row). r.core < 8) (omega arith) (λ u l. (f.each u l).core) n)
 
 pub few_cores : (t : Table) → (plan_of t).cores ≤ 8
-few_cores t = of_plan t (λ (p : Plan). p.cores ≤ 8) (omega arith) (λ f. f.few_cores)
+few_cores t = (table_ordered t).few
 
 pub few_ticks : (t : Table) → (plan_of t).ticks < 268435456
 few_ticks t = of_plan t (λ (p : Plan). p.ticks < 268435456) (omega arith) (λ f. f.ticks)
 
 pub few_rows : (t : Table) → length (plan_of t).rows ≤ 384
-few_rows t = of_plan t (λ (p : Plan). length p.rows ≤ 384) (omega arith) (λ f. f.few_tasks)
+few_rows t = (table_ordered t).short
 
 pub count_rows : (t : Table) → length (plan_of t).rows ≡ t.header.tasks
 count_rows t = length-take-le t.header.tasks t.rows (parts t).enough
@@ -102,13 +108,6 @@ few_tasks t = omega (arith, few_rows t, count_rows t)
 
 pub few_on : (t : Table) (k : ℕ) → tasks_on (plan_of t).rows k ≤ 384
 few_on t k = omega (arith, few_rows t, count_by-le-length (on k) (plan_of t).rows)
-
--- a number below 511 names a task, and none but that
-pub named_small : (t : ℕ) → t < 511 → named t ≡ Some t
-named_small t l = grind (arith, nat_tests)
-
-pub named_some : (n t : ℕ) → named n ≡ Some t → n ≡ t
-named_some n t h = grind (arith, nat_tests)
 
 -- the task at a place of core k is the one there among the numbers of the rows that lie on it: one row further left, and for all rows
 nth_step : (k n i : ℕ) (r : Row) (rs : List Row) (test : ℕ → Bool) → test i ≡ on k r → i < 511 → ((m : ℕ) → slice_get (filter test (range_with_len (i + 1) (length rs))) m ≡ named (nth_on k m (suc i) rs)) →
@@ -125,23 +124,16 @@ nth_named k n i (r ∷ rs) test at l =
     nth_step k n i r rs test (ap test z ∙ at 0 (omega arith)) (omega (arith, l 0 (omega arith)))
     (λ m. ap (λ j. slice_get (filter test (range_with_len j (length rs))) m) s ∙ nth_named k m (suc i) rs test on_rest (λ a q. omega (arith, l (suc a) (omega arith))))
 
--- a place that is taken names a row
-pub nth_within : (k n : ℕ) (rows : List Row) → n < tasks_on rows k → nth_on k n 0 rows < length rows
-nth_within k n rows h = let f = nth_found k n 0 rows h in omega (arith, f.is, f.within)
-
 -- the task at a place: there is one exactly at the places below the number of the core's tasks
 pub task_at : (t : Table) (k n : ℕ) → n < tasks_on (plan_of t).rows k → named (nth_on k n 0 (plan_of t).rows) ≡ Some (nth_on k n 0 (plan_of t).rows)
-task_at t k n l = named_small (nth_on k n 0 (plan_of t).rows) (omega (arith, nth_within k n (plan_of t).rows l, few_rows t))
+task_at t k n l = nth_some (plan_of t) (table_ordered t) k n l
 
 pub no_task_at : (t : Table) (k n : ℕ) → tasks_on (plan_of t).rows k ≤ n → named (nth_on k n 0 (plan_of t).rows) ≡ None
-no_task_at t k n l = ap named (nth_none k n 0 (plan_of t).rows l)
+no_task_at t k n l = nth_past (plan_of t) (table_ordered t) k n l
 
 -- no task lies on a core that the table lacks
 pub off_table : (t : Table) (k : ℕ) → (plan_of t).cores ≤ k → tasks_on (plan_of t).rows k ≡ 0
-off_table t k l = none_on k (plan_of t).rows (⊎_elim
-    (λ e. λ u m _. let n : length (plan_of t).rows ≡ 0 = ap (λ (p : Plan). length p.rows) e in omega (arith, m, n))
-    (λ h. λ u m x. omega (arith, h.1.on_a_core u m, x, l))
-    (table_sound t))
+off_table t k l = none_on k (plan_of t).rows (λ u m x. omega (arith, (table_ordered t).on_core u m, x, l))
 
 -- the next place is the first after this one
 record Then (k n i : ℕ) (rows : List Row) : Type 0 where

@@ -36,6 +36,7 @@ abbrev pub wait : List Row → Row → ℕ → ℕ
 wait rows r k = count_by (ends_by k r.start) rows
 
 -- the number that stands for no task: no table has so many rows
+-- a number and no Option, so that `row` can be asked for it: there it is the blank row
 abbrev pub no_task : ℕ
 no_task = 511
 

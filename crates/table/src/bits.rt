@@ -11,8 +11,6 @@ fn bit_at(bytes: &[u8], at: usize) -> u8
 }
 
 // The number in the `width` bits of the bytes from bit `at` on, which a type of so many bits holds.
-// A loop: the closure of a fold would have to be told again that the number so far is small enough to double.
-#[tactic(auto, unfolding(crate::specs::Bits::field))]
 pub(crate) fn read_field(bytes: &[u8], at: usize, width: usize) -> u32
     requires near { at < 65536 }
     requires narrow { width ≤ 28 }
@@ -20,9 +18,5 @@ pub(crate) fn read_field(bytes: &[u8], at: usize, width: usize) -> u32
     ensures is { result ≡ field bytes.now at width }
     ensures fits { result < 2 ^ width }
 {
-    let mut value = 0;
-    for i in 0..width {
-        value = 2 * value + u32::from(bit_at(bytes, at + i));
-    }
-    value
+    (at..at + width).fold(0, |value, i| value << 1 | u32::from(bit_at(bytes, i)))
 }

@@ -24,7 +24,7 @@ pub enum Fault {
 }
 
 impl Fault {
-    // The number of the question that was answered no.
+    // The number of the question that was answered no. By cases: the format numbers the questions, not the variants.
     pub fn number(self) -> u8
         ensures { result ≡ number_of self }
     {

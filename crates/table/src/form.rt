@@ -18,6 +18,7 @@ pub(crate) struct Form<'a> {
 
 impl Form<'_> {
     // Row `task` of the bytes.
+    // `fits` is no fact of `Row`: its fields are public, and tests and definitions build rows of any numbers.
     pub(crate) fn row(&self, task: u16) -> Row
         requires { task < self.now.header.tasks }
         ensures is { result ≡ row_at self.now.bytes.now task }

@@ -9,6 +9,7 @@ use crate::rows::Row;
 pub struct Table {
     pub(crate) header: Header,
     // The rows, of which the first `header.tasks` count.
+    // An array and not an `ArrayVec`: a board copies the table that it opens, and an `ArrayVec` is not `Copy`.
     pub(crate) rows: [Row; 384],
     ghost ok: { sound header.cores header.tasks header.ticks rows ≡ true },
 }

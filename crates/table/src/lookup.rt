@@ -6,7 +6,8 @@ ghost use Rattle.table.specs.View.{plan_of};
 use crate::lawful::Table;
 use crate::rows::Row;
 
-// How many of the rows lie on the core and end by the time: a loop over the rows, a form that the project asks for.
+// How many of the rows lie on the core and end by the time.
+// A loop over a slice is a form that the project asks for here; `tasks_on` counts by `filter` and `count`.
 fn count_ended_by(rows: &[Row], core: u32, time: u32) -> u16
     requires { length rows.now ≤ 384 }
     ensures is { result ≡ count_by (ends_by core time) rows.now }
@@ -20,6 +21,7 @@ fn count_ended_by(rows: &[Row], core: u32, time: u32) -> u16
     count
 }
 
+// Each `few` is implied by `is` and the table's fact, and said since callers add these counts.
 impl Table {
     // The number of cores, 0 of an empty table.
     pub fn cores(&self) -> u8
@@ -55,6 +57,7 @@ impl Table {
     }
 
     // The row of the task; a blank one if there is no such task.
+    // `soon` and `small` are no facts of `Row`: its fields are public; tests and definitions build rows of any numbers.
     pub fn row(&self, task: u16) -> Row
         ensures is { result ≡ row (plan_of self.now) task }
         ensures soon { result.start < 268435456 }

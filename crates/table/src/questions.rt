@@ -45,7 +45,7 @@ impl Header {
     }
 }
 
-// A row is read from bits by its number, and a fault tells it: these loops go over numbers, since there is no slice to walk.
+// These loops go over the numbers of rows: a row is read from bits by its number, and a fault tells that number.
 impl Form<'_> {
     // Questions 4 to 6 of each row in turn.
     fn check_places(&self) -> Result<(), Fault>

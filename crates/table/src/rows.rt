@@ -91,7 +91,7 @@ impl Row {
     };
 
     // Does the row lie on the core?
-    pub(crate) fn lies_on(self, core: u32) -> bool
+    pub fn lies_on(self, core: u32) -> bool
         ensures { result ≡ on core self }
     {
         u32::from(self.core) == core
