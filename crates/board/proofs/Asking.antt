@@ -2,24 +2,21 @@
 use Rattle.std.proofs.Common.{◌≡◌, ℕ, Bool, true, false, ◌&&◌, ltb, get_or, Some, None, Option, MatchOption, sym, ap, ◌∙◌, ⊎_elim, arith}
 use Rattle.std.proofs.lemmas.Bool.{cases_Bool, lt-ltb, and_left, and_right}
 use Rattle.table.proofs.Tables.{named_some, task_at}
-use Rattle.board.specs.Steps.{is_waiting, is_pending, is_over}
+use Rattle.board.specs.Steps.{is_pending, is_over}
 use Rattle.board.specs.Meaning.{idle, ended_on, step_of, next, next_task}
 use Rattle.board.specs.Standing.{plan_at, progress_at}
 use Rattle.board.specs.declared.cores.Core.{Core}
 use Rattle.board.specs.declared.cores.Step.{Step}
 use Rattle.board.specs.declared.progress.Progress.{Progress}
-use Rattle.board.specs.Keeping.{left_at, pending_left, waiting_left}
+use Rattle.board.specs.Keeping.{left_at, pending_left}
 use Rattle.board.proofs.Steps.{over_not}
 
 and_last : (x y z : Bool) → x ≡ true → y ≡ true → (x && (y && z)) ≡ z
 and_last x y z a b = rw (a, b)
 
--- where a core is over, its next task neither is pending nor waits
+-- where a core is over, its next task is not pending
 pub over_pending : (s : Step) → is_over s ≡ true → is_pending s ≡ false
 over_pending = over_not is_pending pending_left
-
-pub over_waiting : (s : Step) → is_over s ≡ true → is_waiting s ≡ false
-over_waiting = over_not is_waiting waiting_left
 
 -- a core with no next task is over
 pub none_over : (x : Progress) (k : ℕ) → None ≡ next_task (plan_at x) (progress_at x) k → is_over (step_of (progress_at x) k) ≡ true

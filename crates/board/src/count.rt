@@ -46,8 +46,7 @@ impl CountBoard {
         ensures { result ≡ free_of (plan_at self.now.progress) (progress_at self.now.progress) step task core }
     {
         let row = self.progress.table().row(task);
-        let in_force = u32::from(row.core) != core
-            && (step.is_waiting() || row.inputs.contains(core));
+        let in_force = !row.lies_on(core) && (step.is_waiting() || row.inputs.contains(core));
         !in_force || self.met(task, core)
     }
 

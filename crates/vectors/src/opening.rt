@@ -11,7 +11,7 @@ use std::array;
 use table::lawful::Table;
 use table::rows::CoreSet;
 
-// The cores at which the test holds: a loop, since a filter and a fold would say it no more plainly.
+// The cores at which the test holds. A loop: a chain's lemmas ask for the test at every number, and it is known below 8.
 fn cores_where<F: Fn(u32) -> bool>(test: F) -> CoreSet
     requires { (k : ℕ) → k < 8 → F.pre test k }
     ensures { (f : ℕ → Bool) → ((k : ℕ) (b : Bool) → k < 8 → F.post test k b → b ≡ f k) → result ≡ set_of f }
@@ -154,7 +154,7 @@ impl<'a> Opening<'a> {
         ensures { result ≡ aims (plan_of self.now.table.now) task core i }
     {
         let own = u32::from(self.table.row(task).core);
-        u32::from(self.table.row(i).core) == core
+        self.table.row(i).lies_on(core)
             && self.ready[usize::from(i)].contains(own)
             && self.links.completer(i, own) == Some(task)
     }
