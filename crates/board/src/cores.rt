@@ -19,9 +19,8 @@ pub enum Step {
     Over,
 }
 
-// Each test of a step has a name, as `Option::is_some` has, so that it can be handed on.
 impl Step {
-    // The step of a core whose next task has not been touched.
+    // The step of a core whose next task has not been touched, by the two cases of that task.
     fn untouched(next: Option<u16>) -> Step
         ensures { result ≡ untouched next }
     {
@@ -30,6 +29,8 @@ impl Step {
             None => Step::Over,
         }
     }
+
+    // Each test of a step has a name, as `Option::is_some` has, so that it can be handed on.
 
     pub fn is_waiting(self) -> bool
         ensures { result ≡ is_waiting self }
@@ -122,7 +123,7 @@ impl CoreRow {
     }
 }
 
-// A row for each core that a table can have.
+// A row for each core that a table can have: an array, of fixed memory, so that a board can be copied.
 #[derive(Clone, Copy)]
 pub struct Cores {
     pub(crate) rows: [CoreRow; 8],

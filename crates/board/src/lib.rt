@@ -48,6 +48,8 @@ pub trait Board {
     fn easable(&self, core: u32) -> bool
         ensures { result ≡ easable (plan self.now) (progress self.now) core };
 
+    // Each of the three orders says what it keeps: a clause cannot be said once for several methods.
+
     // Lets the next task loose, if the core can be eased.
     fn ease(&mut self, core: u32) -> bool
         ensures answer { result ≡ easable (plan self.old) (progress self.old) core }

@@ -82,7 +82,8 @@ impl Refusal {
     }
 }
 
-// What a call comes back with. A `Result` would have to hold an answer or nothing beside the refusal.
+// What a call comes back with. A `Result` has no `Display` of ours, and an `Ok` of nothing would not say that an end
+// was noted.
 #[derive(Clone, Copy, PartialEq, Eq, Debug)]
 pub enum Reply {
     // The answer to an ask.
@@ -93,7 +94,7 @@ pub enum Reply {
     Refused(Refusal),
 }
 
-// The result of an ask, as a reply.
+// The result of an ask, as a reply; below, that of a finish. They are alike only in the refusal.
 impl From<Result<Answer, Refusal>> for Reply {
     ghost from_gives = { λ outcome reply. reply ≡ told outcome };
 

@@ -17,7 +17,8 @@ use std::fmt;
 pub mod buffer;
 pub mod feeding;
 
-// What is shown for a line that is not silent. It is no `Result`, since only a type of this crate can have a `Display`.
+// What is shown for a line that is not silent: no `Result` or `Option`, since only a type of this crate can have a
+// `Display`.
 #[derive(Clone, Copy, PartialEq, Eq, Debug)]
 pub enum Shown {
     // The line breaks a rule.

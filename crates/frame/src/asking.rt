@@ -79,7 +79,8 @@ impl<B: Board, R: Rule> Frame<B, R> {
         }
     }
 
-    // What an ask comes to where the core and the time are taken.
+    // What an ask comes to where the core and the time are taken. `outcome` speaks of what the frame remembers, and
+    // `kept` of the whole frame, here and in the calls.
     fn answer(&mut self, core: u32, time: u32) -> Result<Answer, Refusal>
         requires core { core < (state_of B.Board self.old).plan.cores }
         requires timely { timely (state_of B.Board self.old) time ≡ true }

@@ -12,7 +12,7 @@ use rule::Rule;
 use runs::Record;
 
 impl<B: Board, R: Rule> Frame<B, R> {
-    // Does the core run this task?
+    // Does the core run this task? It may be any number, so the three numbers of a finish are no candidate.
     fn runs(&self, core: u32, task: u32) -> bool
         ensures is { result ≡ runs_on (state_of B.Board self.now) core task }
         ensures within { result ≡ true → task < length (state_of B.Board self.now).plan.rows }

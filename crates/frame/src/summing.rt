@@ -32,7 +32,7 @@ impl<B: Board, R: Rule> Frame<B, R> {
             .map_or(Record::FRESH, |task| self.record(task))
     }
 
-    // Was the core's next task let loose, and has it not ended?
+    // Was the core's next task let loose, and has it not ended? By cases of the step, as the definition says it.
     fn at_large(&self, core: u32) -> bool
         ensures { result ≡ at_large (state_of B.Board self.now) core }
     {

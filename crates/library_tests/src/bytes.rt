@@ -89,7 +89,7 @@ pub fn example() -> [Row; 10] {
     ]
 }
 
-// The table of the worked example.
+// The table of the worked example. The handle that may stop a test gives no heap, so the heap goes beside it.
 pub fn example_table(rt: &impl Abort, heap: Global) -> Result<Table, Fail> {
     Draft::new(3, 80, &example()).loaded(rt, heap)
 }

@@ -39,6 +39,7 @@ fn first_vectors_of_the_example(rt: HostRuntime) -> Result<(), Fail> {
 #[test]
 fn the_example_eased_at_task_6(rt: HostRuntime) -> Result<(), Fail> {
     let mut board = opened(&example_table(&rt, rt.alloc())?);
+    // A core is a number: there is no list of cores to walk.
     for core in 0..3 {
         runs(&rt, &mut board, core);
     }

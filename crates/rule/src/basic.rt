@@ -16,6 +16,7 @@ impl Rule for Locked {
 
     ghost covered = { Prim.search rules };
 
+    // The trait's clauses, in this rule's own words; so below.
     fn allows(&mut self, question: Question) -> bool
         ensures answer { result ≡ never question }
         ensures moved { self.new ≡ self.old }

@@ -17,7 +17,8 @@ pub struct Event {
 }
 
 impl Event {
-    // The call with a place for its reply, which any reply fills until the call is made.
+    // The call with a place for its reply, which any reply fills until the call is made. It is no `Option`: once the
+    // list is played, every event has its reply.
     pub fn new(call: Call) -> Event
         ensures { result ≡ record { call = call; reply = Noted } }
     {
@@ -46,7 +47,7 @@ impl Manner {
         self as u8
     }
 
-    // The task was started before its turn.
+    // The task was started before its turn. The test has a name, as those of a step have.
     pub fn is_loose(self) -> bool
         ensures { result ≡ went_loose self }
     {

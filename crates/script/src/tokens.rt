@@ -69,7 +69,7 @@ pub fn next_token(text: &[u8]) -> (Token<'_>, &[u8])
     }
     let text = without_spaces(text);
     let (word, rest) = text.split_at(word_len(text));
-    // Not `map_or`: a variant that borrows, passed as a function, gets no generated proof.
+    // Not `map_or`: neither a variant of a type that borrows nor a closure that makes one gets a generated proof there.
     match number_value(word) {
         Some(value) => (Token::Number(value), rest),
         None => (Token::Word(word), rest),

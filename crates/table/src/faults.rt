@@ -24,7 +24,7 @@ pub enum Fault {
 }
 
 impl Fault {
-    // The number of the question that was answered no. By cases: the format numbers the questions, not the variants.
+    // The number of the question that was answered no. By cases: a variant that carries a row has no number to cast.
     pub fn number(self) -> u8
         ensures { result ≡ number_of self }
     {
@@ -39,7 +39,7 @@ impl Fault {
         }
     }
 
-    // The row at fault, if it is one.
+    // The row at fault, if it is one. By cases, here and below, as the format tells of each question.
     pub fn row(self) -> Option<u16>
         ensures { result ≡ row_of self }
     {

@@ -21,7 +21,7 @@ fn count_ended_by(rows: &[Row], core: u32, time: u32) -> u16
     count
 }
 
-// Each `few` is implied by `is` and the table's fact, and said since callers add these counts.
+// Each `few` follows from `is` and the table's fact, and is said so that callers can bound an index, a sum or a cast.
 impl Table {
     // The number of cores, 0 of an empty table.
     pub fn cores(&self) -> u8

@@ -11,7 +11,8 @@ use crate::layout::{Header, read_header};
 use crate::rows::Row;
 
 impl Header {
-    // Questions 4 to 6 of a row; `before` is the end of the row before it on its core, 0 if there is none.
+    // Questions 4 to 6 of a row; `before` is the end of the row before it on its core. If there is none it is 0, the
+    // frame's beginning, which no row starts before.
     fn check_span(self, task: u16, row: Row, before: u32) -> Result<(), Fault>
         ensures { result ≡ ok_unless (span_fault self.cores self.ticks task row before) }
     {
@@ -45,7 +46,8 @@ impl Header {
     }
 }
 
-// These loops go over the numbers of rows: a row is read from bits by its number, and a fault tells that number.
+// These loops go over the numbers of rows: a row is read from bits by its number, and a fault tells that number. A
+// `find` would need a match after it.
 impl Form<'_> {
     // Questions 4 to 6 of each row in turn.
     fn check_places(&self) -> Result<(), Fault>

@@ -70,7 +70,8 @@ impl VectorBoard {
         self.vectors.status_of(core)
     }
 
-    // The core's next task, if the core is clear: exactly when its vectors say so.
+    // The core's next task, if the core is clear: exactly when its vectors say so. The three that ask for a task differ
+    // in the step and in the test, as a count board's two do.
     fn clear_task(&self, core: u32) -> Option<u16>
         ensures { result ≡ task_if (vectors_clear (plan_on self.now) (standing_of self.now) core) (plan_on self.now) (standing_of self.now) core }
     {
@@ -129,6 +130,7 @@ impl Board for VectorBoard {
         *self = VectorBoard::opened(table);
     }
 
+    // The trait has no body for these three, as the count board says.
     fn table(&self) -> &Table {
         self.progress.table()
     }

@@ -11,7 +11,7 @@ use std::array;
 use table::lawful::Table;
 use table::rows::CoreSet;
 
-// The cores at which the test holds. A loop: a chain's lemmas ask for the test at every number, and it is known below 8.
+// The cores at which the test holds. A loop: a chain's lemmas ask for the test at every number, here known below 8.
 fn cores_where<F: Fn(u32) -> bool>(test: F) -> CoreSet
     requires { (k : ℕ) → k < 8 → F.pre test k }
     ensures { (f : ℕ → Bool) → ((k : ℕ) (b : Bool) → k < 8 → F.post test k b → b ≡ f k) → result ≡ set_of f }
@@ -32,7 +32,7 @@ struct TaskOf<'a> {
     task: u16,
 }
 
-impl<'a> TaskOf<'a> {
+impl TaskOf<'_> {
     // The core on which the task lies.
     fn core(&self) -> u32
         ensures { result ≡ (row (plan_of self.now.table.now) self.now.task).core }
@@ -128,11 +128,13 @@ fn told(targets: &[Option<u16>; 8]) -> CoreSet
 pub(crate) struct Opening<'a> {
     table: &'a Table,
     pub(crate) links: Links,
+    // Apart from the links of a task: those go to the board as they are, and this into the board's vectors.
     ready: [CoreSet; 384],
     ghost linked: { links ≡ links_of (plan_of table.now) },
     ghost begun: { ready ≡ map (λ t. set_of (begins (plan_of table.now) t)) (range_with_len 0 384) },
 }
 
+// A `TaskOf` has no links: what needs them takes the task's number.
 impl<'a> Opening<'a> {
     pub(crate) fn new(table: &'a Table) -> Opening<'a>
         ensures { plan_of result.table.now ≡ plan_of table.now }

@@ -133,7 +133,8 @@ impl Vectors {
         self.set_status(core, left);
     }
 
-    // The task, if a look-up found one, needs no notice from the core any more.
+    // The task, if a look-up found one, needs no notice from the core any more. This and `withdraw` differ in the field
+    // that they read and write, which takes two closures to say once.
     fn unready(&mut self, task: Option<u16>, core: u32)
         ensures { self.new ≡ unready self.old task core }
     {
@@ -208,8 +209,7 @@ impl Vectors {
     fn drop_bit(&mut self, links: &Links, core: u32, task: u16, other: u32)
         ensures { self.new ≡ drop_linked links.now self.old core task other }
     {
-        let less = self.ready_of(task).without(other);
-        self.set_ready(task, less);
+        self.unready(Some(task), other);
         self.hand_on(
             links.following(task),
             core,

@@ -33,6 +33,7 @@ fn describe(rt: &HostRuntime, table: &Table) -> anyhow::Result<()> {
     println!(rt;
         "{FILE} holds a lawful table: {cores} cores, {tasks} tasks, a frame of {ticks} ticks."
     )?;
+    // A loop over numbers: each step prints, and may fail.
     for core in 0..u32::from(cores) {
         let count = table.tasks_on(core);
         println!(rt; "Core {core} has {count} tasks.")?;
