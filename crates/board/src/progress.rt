@@ -89,6 +89,8 @@ impl Progress {
         self.table.first_on(core, task + 1)
     }
 
+    // Like a board's orders, those of a progress value say each for itself what they keep.
+
     // Moves the core's next task to another step if it stands at one from which it may, and says whether it did.
     fn advance<F: FnOnce(Step) -> bool>(&mut self, core: u32, may: F, to: Step) -> bool
         requires callable { F.pre may (step_of (progress_at self.old) core) }

@@ -6,7 +6,6 @@ ghost use Rattle.frame.specs.View.{state_of, Soon};
 use crate::candidate::Candidate;
 use crate::{Frame, LAST_TICK};
 use board::Board;
-use board::cores::Step;
 use calls::Refusal;
 use rule::Rule;
 use rule::question::Question;
@@ -32,15 +31,12 @@ impl<B: Board, R: Rule> Frame<B, R> {
             .map_or(Record::FRESH, |task| self.record(task))
     }
 
-    // Was the core's next task let loose, and has it not ended? By cases of the step, as the definition says it.
+    // Was the core's next task let loose, and has it not ended?
     fn at_large(&self, core: u32) -> bool
         ensures { result ≡ at_large (state_of B.Board self.now) core }
     {
-        match self.board.core(core).step {
-            Step::Waiting | Step::Over => false,
-            Step::Loose => true,
-            Step::Running => self.next_record(core).manner.is_loose(),
-        }
+        let step = self.board.core(core).step;
+        step.is_loose() || (step.is_running() && self.next_record(core).manner.is_loose())
     }
 
     // The start of the core's next task, if the core is not over.

@@ -16,11 +16,7 @@ impl Rule for Locked {
 
     ghost covered = { Prim.search rules };
 
-    // The trait's clauses, in this rule's own words; so below.
-    fn allows(&mut self, question: Question) -> bool
-        ensures answer { result ≡ never question }
-        ensures moved { self.new ≡ self.old }
-    {
+    fn allows(&mut self, question: Question) -> bool {
         false
     }
 }
@@ -36,10 +32,7 @@ impl Rule for BySlack {
 
     ghost covered = { Prim.search rules };
 
-    fn allows(&mut self, question: Question) -> bool
-        ensures answer { result ≡ by_slack question }
-        ensures moved { self.new ≡ self.old }
-    {
+    fn allows(&mut self, question: Question) -> bool {
         i64::from(question.slack) >= i64::from(question.reserve) + i64::from(question.claim)
     }
 }

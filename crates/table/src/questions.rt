@@ -46,8 +46,8 @@ impl Header {
     }
 }
 
-// These loops go over the numbers of rows: a row is read from bits by its number, and a fault tells that number. A
-// `find` would need a match after it.
+// These loops go over the numbers of rows: a row is read from bits by its number, and a fault tells that number. Two
+// of them carry on what earlier rows left; the third is of their shape.
 impl Form<'_> {
     // Questions 4 to 6 of each row in turn.
     fn check_places(&self) -> Result<(), Fault>

@@ -134,7 +134,7 @@ pub(crate) struct Opening<'a> {
     ghost begun: { ready ≡ map (λ t. set_of (begins (plan_of table.now) t)) (range_with_len 0 384) },
 }
 
-// A `TaskOf` has no links: what needs them takes the task's number.
+// A `TaskOf` holds no links: what needs them takes the task's number.
 impl<'a> Opening<'a> {
     pub(crate) fn new(table: &'a Table) -> Opening<'a>
         ensures { plan_of result.table.now ≡ plan_of table.now }
