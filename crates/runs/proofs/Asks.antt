@@ -2,7 +2,7 @@
 use Rattle.std.proofs.Common.{◌≡◌, ℕ, zero, suc, ◌+◌, ◌<◌, ◌≤◌, Bool, true, cond, eqb, List, [], ◌∷◌, length, count_by, refl, ⊎_elim, arith}
 use Rattle.std.proofs.lemmas.Bool.{cases_Bool, cases_lt, false≢true, eqb-true, eq-eqb, or_cases, cond-true, cond-false}
 use Rattle.table.specs.Rows.{Plan}
-use Rattle.table.proofs.Places.{count_yes, count_no}
+use Rattle.table.proofs.Places.{count_one, count_yes, count_no}
 use Rattle.calls.specs.declared.Call.{Call}
 use Rattle.calls.specs.declared.Call.TheVariants.{Ask, End}
 use Rattle.runs.specs.declared.Event.{Event}
@@ -57,10 +57,7 @@ asked n es = sum n (λ k. count_by (asks k) es)
 
 -- one event more, for one core and for all; at most one ask for each event
 pub count_cons : (k : ℕ) (e : Event) (es : List Event) → count_by (asks k) (e ∷ es) ≡ adds_to e k + count_by (asks k) es
-count_cons k e es = ⊎_elim
-    (λ h. omega (arith, count_yes (asks k) e es h, cond-true {A = ℕ} (asks k e) 1 0 h))
-    (λ h. omega (arith, count_no (asks k) e es h, cond-false {A = ℕ} (asks k e) 1 0 h))
-    (cases_Bool (asks k e))
+count_cons k e es = count_one (asks k) e es
 
 asked_cons : (n : ℕ) (e : Event) (es : List Event) → asked n (e ∷ es) ≡ sum n (adds_to e) + asked n es
 unfolding asked

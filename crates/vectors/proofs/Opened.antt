@@ -10,8 +10,9 @@ use Rattle.table.proofs.Sets.{set_at, has_none}
 use Rattle.table.proofs.Places.{before, before_lt, nth_at, wait_le}
 use Rattle.table.proofs.Tables.{named_some, nth_within}
 use Rattle.board.specs.Steps.{is_over}
-use Rattle.board.specs.Meaning.{idle, rested, opened}
+use Rattle.board.specs.Meaning.{rested, opened}
 use Rattle.board.specs.declared.cores.Core.{Core}
+use Rattle.board.proofs.Changes.{opened_at}
 use Rattle.vectors.specs.Links.{place, wait_before, begins, completer, is_task, aims, first_target}
 use Rattle.vectors.specs.declared.state.TaskVectors.{TaskVectors}
 use Rattle.vectors.specs.Phases.{no_vectors, vectors_at, task_vectors, first_vectors, ready_of, notify_of, target_of, status_of}
@@ -219,21 +220,17 @@ module _ (p : Plan) (o : Ordered p) where
           let e = and_parts (on c (row p t)) _ q.1 in
           absurd (omega (arith, eqb-true (row p t).core c e.0, o.on_core t (omega (arith, q.0)), a))
 
-  -- a core of a board that was just opened
-  opened_at : (k : ℕ) → k < p.cores → get_or (opened p) k idle ≡ rested p k 0
-  opened_at k h = get_or-map-range_with_len (λ k. rested p k 0) 0 p.cores k k idle h (omega arith)
-
   -- opening begins in agreement
   pub agree_opened : Agree p (opened p) (first_vectors p)
   agree_opened = record {
     long = length-map-range_with_len (λ k. rested p k 0) 0 p.cores;
     shape = shaped;
     left = λ c hc t.
-        let q = ltb-true 0 (tasks p c) (rest_left (ltb 0 (tasks p c)) (sym (ap (λ (r : Core). is_over r.step) (opened_at c hc)) ∙ t)) in
-        subst (λ (r : Core). r.ended < tasks p c) (sym (opened_at c hc)) q;
+        let q = ltb-true 0 (tasks p c) (rest_left (ltb 0 (tasks p c)) (sym (ap (λ (r : Core). is_over r.step) (opened_at p c hc)) ∙ t)) in
+        subst (λ (r : Core). r.ended < tasks p c) (sym (opened_at p c hc)) q;
     alone = alone_first;
     silent = silent_first;
     beyond = beyond_first;
     beyond_told = beyond_told_first;
-    pairs = λ c k hc hk n. subst₂ (λ r E. Pair p (first_vectors p) c k r E) (sym (opened_at c hc)) (sym (ap (λ (r : Core). r.ended) (opened_at k hk))) (pair_first c k hc hk n);
+    pairs = λ c k hc hk n. subst₂ (λ r E. Pair p (first_vectors p) c k r E) (sym (opened_at p c hc)) (sym (ap (λ (r : Core). r.ended) (opened_at p k hk))) (pair_first c k hc hk n);
   }

@@ -1,11 +1,10 @@
 -- What holds of every vector board, since its state is one that orders lead to.
-use Rattle.std.proofs.Common.{◌≡◌, ℕ, zero, suc, ◌<◌, ◌≤◌, Bool, true, false, cond, not, ◌&&◌, ltb, get_or, is_some, Some, None, Option, sym, refl, ap, ◌∙◌, ⊎_elim, arith}
+use Rattle.std.proofs.Common.{◌≡◌, ℕ, zero, suc, ◌<◌, ◌≤◌, Bool, true, false, cond, not, ◌&&◌, ltb, get_or, is_some, Some, None, Option, sym, refl, ap, ◌∙◌, arith}
 use mathlib.Core.Bool.{Bool-set}
 use mathlib.Core.Logic.{∥∥₁_elim}
 use Rattle.std.proofs.Math.Bool.{not-not, and_assoc}
 use Rattle.std.specs.Bool.{then_some}
 use Rattle.std.specs.Option.{MatchOption}
-use Rattle.std.proofs.lemmas.Bool.{both_ways, cases_Bool}
 use Rattle.std.proofs.lemmas.List.FromFn.{get_or-map-range_with_len}
 use Rattle.table.specs.Sets.{has, without, less}
 use Rattle.table.specs.Rows.{Plan, row}
@@ -17,6 +16,7 @@ use Rattle.board.specs.Steps.{is_over, is_running}
 use Rattle.board.specs.Standing.{progress_at}
 use Rattle.board.specs.declared.cores.Step.{Step}
 use Rattle.board.specs.declared.cores.Core.{Core}
+use Rattle.board.proofs.Steps.{over_not}
 use Rattle.board.proofs.Asking.{asked_with, none_over}
 use Rattle.board.specs.Meaning.{clear, easable, idle, next, next_task, step_of}
 use Rattle.board.specs.Keeping.{progress_lawful, running_left}
@@ -114,7 +114,4 @@ some_if false b k = refl
 
 -- a core with no next task runs none
 pub none_running : (b : VectorBoard) (k : ℕ) → None ≡ next_task (plan_on b) (progress_at b.progress) k → false ≡ is_running (step_of (progress_at b.progress) k)
-none_running b k h = go (step_of (progress_at b.progress) k) (none_over b.progress k h)
-  where
-    go : (s : Step) → is_over s ≡ true → false ≡ is_running s
-    go s h = ⊎_elim (λ y. absurd (both_ways (is_over s) (running_left s y) h)) (λ n. sym n) (cases_Bool (is_running s))
+none_running b k h = sym (over_not is_running running_left (step_of (progress_at b.progress) k) (none_over b.progress k h))
