@@ -17,8 +17,9 @@ pub(crate) struct Form<'a> {
 }
 
 impl Form<'_> {
-    // Row `task` of the bytes.
+    // Row `task` of the bytes, read behind the rows before it: each of its fields lies at a fixed bit there.
     // `fits` is no fact of `Row`: its fields are public, and tests and definitions build rows of any numbers.
+    #[tactic(auto, using(crate::proofs::Fields::field_of_row))]
     pub(crate) fn row(&self, task: u16) -> Row
         requires { task < self.now.header.tasks }
         ensures is { result ≡ row_at self.now.bytes.now task }

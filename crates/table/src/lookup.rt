@@ -69,7 +69,7 @@ impl Table {
             .unwrap_or(Row::BLANK)
     }
 
-    // How many tasks before task `end` lie on the core.
+    // How many tasks before task `end` lie on the core. Along the rows' iterator the sum is not made in vectors.
     fn tasks_before(&self, end: u16, core: u32) -> u16
         ensures is { result ≡ tasks_on (take end (plan_of self.now).rows) core }
         ensures few { result ≤ 384 }
