@@ -69,7 +69,8 @@ impl Table {
             .unwrap_or(Row::BLANK)
     }
 
-    // How many tasks before task `end` lie on the core. Along the rows' iterator the sum is not made in vectors.
+    // How many tasks before task `end` lie on the core.
+    // By the tasks' numbers: a sum along the rows' own iterator takes three times as many instructions.
     fn tasks_before(&self, end: u16, core: u32) -> u16
         ensures is { result ≡ tasks_on (take end (plan_of self.now).rows) core }
         ensures few { result ≤ 384 }
