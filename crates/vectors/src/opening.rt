@@ -155,10 +155,11 @@ impl<'a> Opening<'a> {
         requires { i < 384 }
         ensures { result ≡ aims (plan_of self.now.table.now) task core i }
     {
+        if !self.table.row(i).lies_on(core) {
+            return false;
+        }
         let own = u32::from(self.table.row(task).core);
-        self.table.row(i).lies_on(core)
-            && self.ready[usize::from(i)].contains(own)
-            && self.links.completer(i, own) == Some(task)
+        self.ready[usize::from(i)].contains(own) && self.links.completer(i, own) == Some(task)
     }
 
     // The first task of the core that waits for the end of this task, if one does.
