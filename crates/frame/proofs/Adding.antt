@@ -1,5 +1,6 @@
--- The sums over the cores as those of lists.
+-- The sums over the cores: as those of lists, and with one core more.
 use Rattle.std.proofs.Common.{◌≡◌, ℕ, zero, suc, ◌+◌, min, Bool, true, false, cond, List, [], ◌∷◌, ◌++◌, length, filter, append-nil, Some, None, Option, refl, sym, ap, ◌∙◌, add-one, arith}
+use Rattle.std.proofs.lemmas.Bool.{cond-true, cond-false}
 use Rattle.std.specs.List.{range_with_len, sum_by, filter_map, cons_option, reduce}
 use Rattle.std.proofs.lemmas.List.{map-id, length-append}
 use Rattle.std.proofs.lemmas.List.Elements.{filter-append, filter_map-append}
@@ -58,3 +59,31 @@ module _ (f : ℕ → Bool) where
         ap (λ o. cond (f n) (lower o (g n)) o) (lowest_as_least n)
         ∙ (sym (least_or_not (f n) (g n) (filter_map h xs))
         ∙ (ap (reduce min) (sym (filter_map-append h xs (n ∷ []))) ∙ ap (λ ys. reduce min (filter_map h ys)) (sym (numbers_more n))))
+
+-- one core more in the sums
+module _ (n : ℕ) (f : ℕ → Bool) (g : ℕ → ℕ) where
+  after : n + 1 ≡ suc n
+  after = omega arith
+
+  one_more : total (n + 1) f g ≡ cond (f n) (g n + total n f g) (total n f g)
+  one_more = ap (λ m. total m f g) after
+
+  -- a core that counts, and one that does not
+  pub total_yes : (s : ℕ) → f n ≡ true → s ≡ total n f g → s + g n ≡ total (n + 1) f g
+  total_yes s h e = omega (arith, one_more, cond-true (f n) (g n + total n f g) (total n f g) h)
+
+  pub total_no : (s : ℕ) → f n ≡ false → s ≡ total n f g → s ≡ total (n + 1) f g
+  total_no s h e = omega (arith, one_more, cond-false (f n) (g n + total n f g) (total n f g) h)
+
+  -- the smallest value with one core more
+  pub lowest_more : (o r : Option ℕ) → o ≡ lowest n f g → r ≡ cond (f n) (lower o (g n)) o → r ≡ lowest (n + 1) f g
+  lowest_more o r e d = d ∙ (ap (λ i. cond (f n) (lower i (g n)) i) e ∙ sym (ap (λ m. lowest m f g) after))
+
+-- what an option tells that holds a number where a test holds
+pub some_yes : (b : Bool) (x y : ℕ) → Some x ≡ cond b (Some y) None → (b ≡ true) × (x ≡ y)
+some_yes true x y e = (refl, cc)
+some_yes false x y e = cc
+
+pub none_no : (b : Bool) (y : ℕ) → None ≡ cond b (Some y) None → b ≡ false
+none_no true y e = cc
+none_no false y e = refl
