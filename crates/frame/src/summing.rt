@@ -60,21 +60,20 @@ impl<B: Board, R: Rule> Frame<B, R> {
         (0..self.cores()).filter_map(|k| self.next_start(k)).min()
     }
 
-    // The claims of the tasks let loose and not ended.
-    fn reserve(&self) -> u32
-        ensures { result ≡ reserve (state_of B.Board self.now) }
+    // The claims of the tasks let loose and not ended, and how many there are, in one pass over the cores.
+    // Neither sum reaches its type's end: they are of at most 8 claims, each below 2^21.
+    fn all_at_large(&self) -> (u32, u8)
+        ensures { let s = state_of B.Board self.now in result ≡ (reserve s, loose_count s) }
     {
-        (0..self.cores())
+        let cores = u32::from(self.board.table().cores());
+        (0..cores)
             .filter(|k| self.at_large(*k))
-            .map(|k| self.next_row(k).claim)
-            .sum()
-    }
-
-    // How many tasks are let loose and not ended.
-    fn loose_count(&self) -> u8
-        ensures { result ≡ loose_count (state_of B.Board self.now) }
-    {
-        (0..self.cores()).filter(|k| self.at_large(*k)).count() as u8
+            .fold((0, 0), |sums, k| {
+                (
+                    sums.0.saturating_add(self.next_row(k).claim),
+                    sums.1.saturating_add(1),
+                )
+            })
     }
 
     // That smallest start less the time; none when all cores are over.
@@ -89,11 +88,13 @@ impl<B: Board, R: Rule> Frame<B, R> {
     pub(crate) fn question(&self, candidate: Candidate) -> Option<Question>
         ensures { result ≡ question (state_of B.Board self.now) candidate.core candidate.time }
     {
+        let slack = self.slack(candidate.time)?;
+        let (reserve, loose) = self.all_at_large();
         Some(Question {
-            slack: self.slack(candidate.time)?,
-            reserve: self.reserve(),
+            slack,
+            reserve,
             claim: self.next_row(candidate.core).claim,
-            loose: self.loose_count(),
+            loose,
         })
     }
 
@@ -103,6 +104,7 @@ impl<B: Board, R: Rule> Frame<B, R> {
         ensures { result ≡ sums (state_of B.Board self.now) time }
     {
         self.check_time(time)?;
-        Ok((self.slack(time), self.reserve(), self.loose_count()))
+        let (reserve, loose) = self.all_at_large();
+        Ok((self.slack(time), reserve, loose))
     }
 }
