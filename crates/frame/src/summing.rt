@@ -1,5 +1,5 @@
 ghost use Rattle.std.specs.Prelude.{◌≡◌, ◌≤◌, if◌then◌else◌, Some, None, slice_index_or};
-ghost use Rattle.runs.specs.Records.{fresh};
+ghost use Rattle.runs.specs.Records.{fresh, went_loose};
 ghost use Rattle.runs.specs.Calls.{next_of, next_row, not_over, at_large, lowest_start, slack, reserve, loose_count, question, sums};
 ghost use Rattle.frame.specs.View.{state_of, Soon};
 
@@ -9,26 +9,16 @@ use board::Board;
 use calls::Refusal;
 use rule::Rule;
 use rule::question::Question;
-use runs::Record;
 
 impl<B: Board, R: Rule> Frame<B, R> {
-    // The record of the task; a fresh one of a task that the table lacks.
-    fn record(&self, task: u16) -> Record
-        ensures { result ≡ slice_index_or (state_of B.Board self.now).records task fresh }
+    // Was the core's next task started loose?
+    fn runs_loose(&self, core: u32) -> bool
+        ensures { let s = state_of B.Board self.now in result ≡ went_loose (slice_index_or s.records (next_of s core) fresh).manner }
     {
-        self.table_records()
-            .get(usize::from(task))
-            .copied()
-            .unwrap_or(Record::FRESH)
-    }
-
-    // The record of the core's next task; a fresh one if none is left.
-    fn next_record(&self, core: u32) -> Record
-        ensures { let s = state_of B.Board self.now in result ≡ slice_index_or s.records (next_of s core) fresh }
-    {
-        self.board
-            .next(core)
-            .map_or(Record::FRESH, |task| self.record(task))
+        let Some(task) = self.board.next(core) else {
+            return false;
+        };
+        self.records[usize::from(task)].manner.is_loose()
     }
 
     // Was the core's next task let loose, and has it not ended?
@@ -36,7 +26,7 @@ impl<B: Board, R: Rule> Frame<B, R> {
         ensures { result ≡ at_large (state_of B.Board self.now) core }
     {
         let step = self.board.core(core).step;
-        step.is_loose() || (step.is_running() && self.next_record(core).manner.is_loose())
+        step.is_loose() || (step.is_running() && self.runs_loose(core))
     }
 
     // The start of the core's next task, if the core is not over.
