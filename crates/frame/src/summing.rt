@@ -51,7 +51,8 @@ impl<B: Board, R: Rule> Frame<B, R> {
     }
 
     // The claims of the tasks let loose and not ended, and how many there are, in one pass over the cores.
-    // Neither sum reaches its type's end: they are of at most 8 claims, each below 2^21.
+    // Neither sum reaches its type's end: there are at most 8 cores, and each claim is below 2^21, which is known of the
+    // rows of a table's value; so the table is read here.
     fn all_at_large(&self) -> (u32, u8)
         ensures { let s = state_of B.Board self.now in result ≡ (reserve s, loose_count s) }
     {
@@ -94,7 +95,7 @@ impl<B: Board, R: Rule> Frame<B, R> {
         ensures { result ≡ sums (state_of B.Board self.now) time }
     {
         self.check_time(time)?;
-        let (reserve, loose) = self.all_at_large();
-        Ok((self.slack(time), reserve, loose))
+        let (reserve, open) = self.all_at_large();
+        Ok((self.slack(time), reserve, open))
     }
 }

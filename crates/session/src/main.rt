@@ -67,7 +67,7 @@ impl Session {
     fn play_part(&mut self, rt: &HostRuntime) -> io::Result<bool> {
         let mut chunk = [0; CHUNK];
         let count = rt.stdin().read(&mut chunk)?;
-        for byte in &chunk[..count] {
+        for byte in chunk.iter().take(count) {
             // Asked here, since most bytes show nothing.
             if let Some(shown) = take_byte(&mut self.frame, &mut self.line, *byte) {
                 self.show(shown)?;

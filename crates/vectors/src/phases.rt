@@ -187,8 +187,7 @@ impl Vectors {
     fn drop_bit(&mut self, links: &Links, core: u32, task: u16, other: u32)
         ensures { self.new ≡ drop_linked links.now self.old core task other }
     {
-        let less = self.ready_of(task).without(other);
-        self.set_ready(task, less);
+        self.unready(Some(task), other);
         self.hand_on(
             links.following(task),
             core,
