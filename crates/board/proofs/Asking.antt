@@ -1,22 +1,25 @@
 -- What the questions of a board come down to, over a progress value.
 use Rattle.std.proofs.Common.{◌≡◌, ℕ, Bool, true, false, ◌&&◌, ltb, get_or, Some, None, Option, MatchOption, sym, ap, ◌∙◌, ⊎_elim, arith}
-use Rattle.std.proofs.lemmas.Bool.{cases_Bool, lt-ltb, and_left, and_right}
+use Rattle.std.proofs.lemmas.Bool.{cases_Bool, lt-ltb, and_parts, and_left, and_right}
 use Rattle.table.proofs.Tables.{named_some, task_at}
-use Rattle.board.specs.Steps.{is_pending, is_over}
-use Rattle.board.specs.Meaning.{idle, ended_on, step_of, next, next_task}
+use Rattle.board.specs.Steps.{is_waiting, is_pending, is_over}
+use Rattle.board.specs.Meaning.{idle, ended_on, step_of, next, next_task, clear, easable}
 use Rattle.board.specs.Standing.{plan_at, progress_at}
 use Rattle.board.specs.declared.cores.Core.{Core}
 use Rattle.board.specs.declared.cores.Step.{Step}
 use Rattle.board.specs.declared.progress.Progress.{Progress}
-use Rattle.board.specs.Keeping.{left_at, pending_left}
+use Rattle.board.specs.Keeping.{left_at, waiting_left, pending_left}
 use Rattle.board.proofs.Steps.{over_not}
 
 and_last : (x y z : Bool) → x ≡ true → y ≡ true → (x && (y && z)) ≡ z
 and_last x y z a b = rw (a, b)
 
--- where a core is over, its next task is not pending
+-- where a core is over, its next task is not pending, and not waiting
 pub over_pending : (s : Step) → is_over s ≡ true → is_pending s ≡ false
 over_pending = over_not is_pending pending_left
+
+pub over_waiting : (s : Step) → is_over s ≡ true → is_waiting s ≡ false
+over_waiting = over_not is_waiting waiting_left
 
 -- a core with no next task is over
 pub none_over : (x : Progress) (k : ℕ) → None ≡ next_task (plan_at x) (progress_at x) k → is_over (step_of (progress_at x) k) ≡ true
@@ -53,3 +56,10 @@ asked_with x k g f left c (Some t) b e d P m h = ⊎_elim
     (λ w. asked_from x k g f left c t b e d w (m t h ∙ ap (λ (z : Bool). z && f c.step t) w))
     (λ w. let no : b ≡ false = m t h ∙ ap (λ (z : Bool). z && f c.step t) w in asked_not x k g f c b e (no ∙ sym w) no)
     (cases_Bool (g c.step))
+
+-- a clear core has a pending next task, an easable one a waiting one
+pub clear_pending : (x : Progress) (k : ℕ) → clear (plan_at x) (progress_at x) k ≡ true → is_pending (step_of (progress_at x) k) ≡ true
+clear_pending x k h = (and_parts (is_pending (step_of (progress_at x) k)) _ (and_parts (ltb k (plan_at x).cores) _ h).1).0
+
+pub easable_waiting : (x : Progress) (k : ℕ) → easable (plan_at x) (progress_at x) k ≡ true → is_waiting (step_of (progress_at x) k) ≡ true
+easable_waiting x k h = (and_parts (is_waiting (step_of (progress_at x) k)) _ (and_parts (ltb k (plan_at x).cores) _ h).1).0

@@ -1,13 +1,13 @@
 -- A run, one call on.
-use Rattle.std.proofs.Common.{◌≡◌, ℕ, ◌+◌, ◌<◌, List, [], ◌∷◌, ◌++◌, map, length, get_or, take, drop, set, sym, ap, ◌∙◌, subst, arith}
-use Rattle.std.proofs.lemmas.List.{take_more_set, map-set, set-get_or, get_or-map, drop_more, drop-set-lt}
+use Rattle.std.proofs.Common.{◌≡◌, ℕ, ◌+◌, ◌<◌, ◌≤◌, List, [], ◌∷◌, ◌++◌, map, length, get_or, take, drop, set, sym, ap, ◌∙◌, subst, arith}
+use Rattle.std.proofs.lemmas.List.{take_more_set, map-set, set-get_or, get_or-map, drop_more, drop-set-lt, drop_all, take_all}
 use Rattle.table.specs.Rows.{Plan}
 use Rattle.rule.specs.Law.{Says, Covered}
 use Rattle.rule.specs.declared.question.Question.{Question}
 use Rattle.calls.specs.declared.Reply.{Reply}
 use Rattle.calls.specs.declared.Call.{Call}
 use Rattle.calls.specs.declared.Call.TheVariants.{Ask, End}
-use Rattle.runs.specs.Calls.{State, Outcome, outcome, respond, rule_left, played}
+use Rattle.runs.specs.Calls.{State, Outcome, outcome, respond, rule_left, left_by, played}
 use Rattle.runs.specs.declared.Event.{Event}
 use Rattle.runs.proofs.Run.{Run}
 use Rattle.frame.specs.View.{call_of}
@@ -46,3 +46,8 @@ module _ (es : List Event) (i : ℕ) (d : Event) (l : i < length es) (x : Event)
       ∙ (ap (λ (b : Call). played says moved rest (rule_left moved q s c) after (take i es ++ (record { call = b; reply = x.reply } ∷ []))) same
       ∙ (ap (λ (o : Outcome). played says moved rest (rule_left moved q s c) o.state (take i es ++ (record { call = c; reply = o.reply } ∷ []))) e
       ∙ ap (λ (t : List Event). played says moved (map call_of t) q s (take i es)) (sym (drop_more es i d l))))))
+
+-- all calls are played
+pub played_all : {R : Type 0} (says : R → Says) (moved : R → Question → R) (es : List Event) (i : ℕ) (q : R) (s : State) → length es ≤ i → left_by es s q ≡ played says moved (map call_of (drop i es)) q s (take i es)
+played_all says moved es i q s l =
+    ap (λ (t : List Event). left_by t s q) (sym (take_all i es l)) ∙ ap (λ (t : List Event). played says moved (map call_of t) q s (take i es)) (sym (drop_all i es l))

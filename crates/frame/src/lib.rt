@@ -83,7 +83,7 @@ impl<B: Board, R: Rule> Frame<B, R> {
     }
 
     // The row of the core's next task; a blank one if none is left.
-    // `soon` and `small` are what a table says of any row: by them slack and reserve do not overflow.
+    // `soon` and `small` are what a table says of any row: by `soon` the slack's difference is an `i32`.
     fn next_row(&self, core: u32) -> Row
         ensures is { result ≡ next_row (state_of B.Board self.now) core }
         ensures soon { result.start < 268435456 }

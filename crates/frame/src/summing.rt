@@ -1,5 +1,5 @@
 ghost use Rattle.std.specs.Prelude.{◌≡◌, ◌≤◌, if◌then◌else◌, Some, None, slice_index_or};
-ghost use Rattle.runs.specs.Records.{fresh};
+ghost use Rattle.runs.specs.Records.{fresh, went_loose};
 ghost use Rattle.runs.specs.Calls.{next_of, next_row, not_over, at_large, lowest_start, slack, reserve, loose_count, question, sums};
 ghost use Rattle.frame.specs.View.{state_of, Soon};
 
@@ -9,26 +9,16 @@ use board::Board;
 use calls::Refusal;
 use rule::Rule;
 use rule::question::Question;
-use runs::Record;
 
 impl<B: Board, R: Rule> Frame<B, R> {
-    // The record of the task; a fresh one of a task that the table lacks.
-    fn record(&self, task: u16) -> Record
-        ensures { result ≡ slice_index_or (state_of B.Board self.now).records task fresh }
+    // Was the core's next task started loose?
+    fn runs_loose(&self, core: u32) -> bool
+        ensures { let s = state_of B.Board self.now in result ≡ went_loose (slice_index_or s.records (next_of s core) fresh).manner }
     {
-        self.table_records()
-            .get(usize::from(task))
-            .copied()
-            .unwrap_or(Record::FRESH)
-    }
-
-    // The record of the core's next task; a fresh one if none is left.
-    fn next_record(&self, core: u32) -> Record
-        ensures { let s = state_of B.Board self.now in result ≡ slice_index_or s.records (next_of s core) fresh }
-    {
-        self.board
-            .next(core)
-            .map_or(Record::FRESH, |task| self.record(task))
+        let Some(task) = self.board.next(core) else {
+            return false;
+        };
+        self.records[usize::from(task)].manner.is_loose()
     }
 
     // Was the core's next task let loose, and has it not ended?
@@ -36,7 +26,7 @@ impl<B: Board, R: Rule> Frame<B, R> {
         ensures { result ≡ at_large (state_of B.Board self.now) core }
     {
         let step = self.board.core(core).step;
-        step.is_loose() || (step.is_running() && self.next_record(core).manner.is_loose())
+        step.is_loose() || (step.is_running() && self.runs_loose(core))
     }
 
     // The start of the core's next task, if the core is not over.
@@ -60,21 +50,21 @@ impl<B: Board, R: Rule> Frame<B, R> {
         (0..self.cores()).filter_map(|k| self.next_start(k)).min()
     }
 
-    // The claims of the tasks let loose and not ended.
-    fn reserve(&self) -> u32
-        ensures { result ≡ reserve (state_of B.Board self.now) }
+    // The claims of the tasks let loose and not ended, and how many there are, in one pass over the cores.
+    // Neither sum reaches its type's end: there are at most 8 cores, and each claim is below 2^21, which is known of the
+    // rows of a table's value; so the table is read here.
+    fn all_at_large(&self) -> (u32, u8)
+        ensures { let s = state_of B.Board self.now in result ≡ (reserve s, loose_count s) }
     {
-        (0..self.cores())
+        let cores = u32::from(self.board.table().cores());
+        (0..cores)
             .filter(|k| self.at_large(*k))
-            .map(|k| self.next_row(k).claim)
-            .sum()
-    }
-
-    // How many tasks are let loose and not ended.
-    fn loose_count(&self) -> u8
-        ensures { result ≡ loose_count (state_of B.Board self.now) }
-    {
-        (0..self.cores()).filter(|k| self.at_large(*k)).count() as u8
+            .fold((0, 0), |sums, k| {
+                (
+                    sums.0.saturating_add(self.next_row(k).claim),
+                    sums.1.saturating_add(1),
+                )
+            })
     }
 
     // That smallest start less the time; none when all cores are over.
@@ -89,11 +79,13 @@ impl<B: Board, R: Rule> Frame<B, R> {
     pub(crate) fn question(&self, candidate: Candidate) -> Option<Question>
         ensures { result ≡ question (state_of B.Board self.now) candidate.core candidate.time }
     {
+        let slack = self.slack(candidate.time)?;
+        let (reserve, loose) = self.all_at_large();
         Some(Question {
-            slack: self.slack(candidate.time)?,
-            reserve: self.reserve(),
+            slack,
+            reserve,
             claim: self.next_row(candidate.core).claim,
-            loose: self.loose_count(),
+            loose,
         })
     }
 
@@ -103,6 +95,7 @@ impl<B: Board, R: Rule> Frame<B, R> {
         ensures { result ≡ sums (state_of B.Board self.now) time }
     {
         self.check_time(time)?;
-        Ok((self.slack(time), self.reserve(), self.loose_count()))
+        let (reserve, open) = self.all_at_large();
+        Ok((self.slack(time), reserve, open))
     }
 }

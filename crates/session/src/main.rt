@@ -57,12 +57,9 @@ impl Session {
         })
     }
 
-    // Writes what a line shows, if it shows anything.
-    fn show(&mut self, shown: Option<Shown>) -> io::Result<()> {
-        match shown {
-            Some(shown) => writeln!(self.output, "{shown}"),
-            None => Ok(()),
-        }
+    // Writes what a line shows.
+    fn show(&mut self, shown: Shown) -> io::Result<()> {
+        writeln!(self.output, "{shown}")
     }
 
     // Waits for the next part of the input, whatever its length, and plays each line that ends in it. All that these
@@ -70,9 +67,11 @@ impl Session {
     fn play_part(&mut self, rt: &HostRuntime) -> io::Result<bool> {
         let mut chunk = [0; CHUNK];
         let count = rt.stdin().read(&mut chunk)?;
-        for byte in &chunk[..count] {
-            let shown = take_byte(&mut self.frame, &mut self.line, *byte);
-            self.show(shown)?;
+        for byte in chunk.iter().take(count) {
+            // Asked here, since most bytes show nothing.
+            if let Some(shown) = take_byte(&mut self.frame, &mut self.line, *byte) {
+                self.show(shown)?;
+            }
         }
         self.output.flush()?;
         Ok(count > 0)
@@ -86,8 +85,9 @@ impl Session {
                 break;
             }
         }
-        let shown = play_line(&mut self.frame, self.line.line());
-        self.show(shown)?;
+        if let Some(shown) = play_line(&mut self.frame, self.line.line()) {
+            self.show(shown)?;
+        }
         self.output.flush()
     }
 }

@@ -10,5 +10,7 @@ pub mod Fills
 pub mod Tables
 pub mod Ordered
 pub mod FromFn
+pub mod Fields
+pub mod Counts
 pub mod Ranges
 pub mod Folds

@@ -41,3 +41,10 @@ module _ (p : Plan) (o : Ordered p) (k n : ℕ) where
       (λ h. let i = named_some _ t e in (i, subst (λ u. u < length p.rows) i (nth_within k n p.rows h)))
       (λ h. let z : Some t ≡ None = sym e ∙ nth_past h in cc)
       (cases_lt n (tasks_on p.rows k))
+
+  -- where no task is named, the number is past all rows
+  pub none_nth : named (nth_on k n 0 p.rows) ≡ None → length p.rows ≤ nth_on k n 0 p.rows
+  none_nth e = ⊎_elim
+      (λ h. let z : Some (nth_on k n 0 p.rows) ≡ None = sym (nth_some h) ∙ e in cc)
+      (λ h. omega (arith, nth_none k n 0 p.rows h, o.short))
+      (cases_lt n (tasks_on p.rows k))

@@ -1,5 +1,5 @@
 -- The loops of load over the rows of the bytes.
-use Rattle.std.proofs.Common.{◌≡◌, ℕ, suc, ◌+◌, ◌-◌, ◌<◌, min, Bool, true, false, cond, not, ◌&&◌, ◌||◌, ltb, leb, List, [], ◌∷◌, length, get_or, take, set, ◌++◌, Some, None, Ok, Err, Option, sym, refl, ap, ◌∙◌, ⊎_elim, arith}
+use Rattle.std.proofs.Common.{◌≡◌, ℕ, suc, ◌+◌, ◌-◌, ◌<◌, ◌≤◌, min, Bool, true, false, cond, not, ◌&&◌, ◌||◌, ltb, leb, List, [], ◌∷◌, length, get_or, take, set, ◌++◌, Some, None, Ok, Err, Option, sym, refl, ap, ◌∙◌, ⊎_elim, arith}
 use Rattle.std.proofs.Math.Bool.{or_assoc}
 use Rattle.std.proofs.lemmas.List.FromFn.{map-range_with_len_more, take-map-range_with_len}
 use Rattle.std.proofs.lemmas.List.{get_or-set_same, get_or-set_other}
@@ -33,6 +33,9 @@ module _ (ask : ℕ → Option Fault) (t n : ℕ) where
   pub scan_more : t < n → ask t ≡ None → first_fault ask t (n - t) ≡ first_fault ask (t + 1) (n - (t + 1))
   scan_more l h = step l ∙ none_else (ask t) (first_fault ask (t + 1) (n - (t + 1))) h
 
+  pub scan_done : n ≤ t → first_fault ask t (n - t) ≡ None
+  scan_done l = let z : n - t ≡ 0 = omega arith in ap (first_fault ask t) z
+
 -- a question that found a fault, and one that found none
 pub fault_of : (o : Option Fault) (f : Fault) → Err f ≡ ok_unless o → o ≡ Some f
 fault_of o f h = grind arith
@@ -53,7 +56,7 @@ kept_more keep first bytes t r is c here kept room v new each k l =
     (cases_eq k c)
 
 -- questions 4 to 6 of row t of the bytes
-place_at : (bytes : List ℕ) (t : ℕ) → t < tasks_of bytes → place_fault (described bytes) t ≡ span_fault (cores_of bytes) (ticks_of bytes) t (row_at bytes t) (last_end (row_at bytes t).core (rows_of bytes t))
+pub place_at : (bytes : List ℕ) (t : ℕ) → t < tasks_of bytes → place_fault (described bytes) t ≡ span_fault (cores_of bytes) (ticks_of bytes) t (row_at bytes t) (last_end (row_at bytes t).core (rows_of bytes t))
 place_at bytes t l =
     ap (λ r. span_fault (cores_of bytes) (ticks_of bytes) t r (last_end r.core (take t (rows_of bytes (tasks_of bytes))))) (row_is bytes (tasks_of bytes) t l)
     ∙ ap (λ xs. span_fault (cores_of bytes) (ticks_of bytes) t (row_at bytes t) (last_end (row_at bytes t).core xs)) (take-map-range_with_len (row_at bytes) 0 (tasks_of bytes) t (omega arith))

@@ -100,6 +100,9 @@ few_ticks t = of_plan t (λ (p : Plan). p.ticks < 268435456) (omega arith) (λ f
 pub few_rows : (t : Table) → length (plan_of t).rows ≤ 384
 few_rows t = (table_ordered t).short
 
+pub enough_rows : (t : Table) → t.header.tasks ≤ length t.rows
+enough_rows t = (parts t).enough
+
 pub count_rows : (t : Table) → length (plan_of t).rows ≡ t.header.tasks
 count_rows t = length-take-le t.header.tasks t.rows (parts t).enough
 

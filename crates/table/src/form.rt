@@ -17,20 +17,21 @@ pub(crate) struct Form<'a> {
 }
 
 impl Form<'_> {
-    // Row `task` of the bytes.
+    // Row `task` of the bytes, read behind the rows before it: each of its fields lies at a fixed bit there.
     // `fits` is no fact of `Row`: its fields are public, and tests and definitions build rows of any numbers.
+    #[tactic(auto, using(crate::proofs::Fields::field_of_row))]
     pub(crate) fn row(&self, task: u16) -> Row
         requires { task < self.now.header.tasks }
         ensures is { result ≡ row_at self.now.bytes.now task }
         ensures fits { RowFits result }
     {
-        let at = 88 * usize::from(task);
-        let core = read_field(self.bytes, 48 + at, 3) as u8;
-        let start = read_field(self.bytes, 51 + at, 28);
-        let end = read_field(self.bytes, 79 + at, 28);
-        let claim = read_field(self.bytes, 107 + at, 21);
+        let bytes = &self.bytes[11 * usize::from(task)..];
+        let core = read_field(bytes, 48, 3) as u8;
+        let start = read_field(bytes, 51, 28);
+        let end = read_field(bytes, 79, 28);
+        let claim = read_field(bytes, 107, 21);
         let inputs = CoreSet {
-            bits: read_field(self.bytes, 128 + at, 8) as u8,
+            bits: read_field(bytes, 128, 8) as u8,
         };
         Row {
             core,

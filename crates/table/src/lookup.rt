@@ -7,7 +7,7 @@ use crate::lawful::Table;
 use crate::rows::Row;
 
 // How many of the rows lie on the core and end by the time.
-// A loop over a slice is a form that the project asks for here; `tasks_on` counts by `filter` and `count`.
+// A loop over a slice is a form that the project asks for here; `tasks_before` counts by a chain.
 fn count_ended_by(rows: &[Row], core: u32, time: u32) -> u16
     requires { length rows.now ≤ 384 }
     ensures is { result ≡ count_by (ends_by core time) rows.now }
@@ -69,12 +69,24 @@ impl Table {
             .unwrap_or(Row::BLANK)
     }
 
+    // How many tasks before task `end` lie on the core.
+    // By the tasks' numbers: a sum along the rows' own iterator takes three times as many instructions.
+    fn tasks_before(&self, end: u16, core: u32) -> u16
+        ensures is { result ≡ tasks_on (take end (plan_of self.now).rows) core }
+        ensures few { result ≤ 384 }
+    {
+        let rows = self.rows();
+        (0..end.min(self.header.tasks))
+            .map(|task| u16::from(rows[usize::from(task)].lies_on(core)))
+            .sum()
+    }
+
     // How many tasks the core has.
     pub fn tasks_on(&self, core: u32) -> u16
         ensures is { result ≡ tasks_on (plan_of self.now).rows core }
         ensures few { result ≤ 384 }
     {
-        self.rows().iter().filter(|row| row.lies_on(core)).count() as u16
+        self.tasks_before(self.header.tasks, core)
     }
 
     // The place of the task on its core: how many tasks stand before it there.
@@ -83,16 +95,16 @@ impl Table {
         ensures few { result ≤ 384 }
     {
         let core = u32::from(self.row(task).core);
-        let before = self.rows().iter().take(usize::from(task));
-        before.filter(|row| row.lies_on(core)).count() as u16
+        self.tasks_before(task, core)
     }
 
     // The task at a place of the core among the tasks from `from` on, if there is one; places count from 0.
     fn nth_from(&self, core: u32, nth: u16, from: u16) -> Option<u16>
         ensures { result ≡ named (nth_on core nth from (drop from (plan_of self.now).rows)) }
     {
+        let rows = self.rows();
         (from..self.header.tasks)
-            .filter(|task| self.row(*task).lies_on(core))
+            .filter(|task| rows[usize::from(*task)].lies_on(core))
             .nth(usize::from(nth))
     }
 

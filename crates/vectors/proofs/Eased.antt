@@ -1,12 +1,12 @@
 -- An easing keeps the vectors in agreement with the progress.
-use Rattle.std.proofs.Common.{◌≡◌, ℕ, zero, suc, ◌-◌, ◌<◌, ◌≤◌, Bool, true, false, not, ◌&&◌, eqb, ltb, ◌⊎◌, List, length, get_or, Some, None, sym, refl, ap, ◌∙◌, subst, subst₂, inl, inr, arith}
+use Rattle.std.proofs.Common.{◌≡◌, ℕ, zero, suc, ◌-◌, ◌<◌, ◌≤◌, Bool, true, false, cond, not, ◌&&◌, eqb, ltb, ◌⊎◌, List, length, get_or, Some, None, sym, refl, ap, ◌∙◌, subst, subst₂, inl, inr, arith}
 use Rattle.std.proofs.lemmas.Bool.{ltb-true, leb-true, leb-false, ne_eqb, eqb-false, cases_lt, and_parts, and_cases, and_left, not-true, not-false, both_ways, cond_both, cond-false}
 use Rattle.std.proofs.lemmas.List.{length-set}
 use Rattle.table.specs.Sets.{has, with, without}
 use Rattle.table.specs.Rows.{Plan, row, named, wait}
 use Rattle.table.proofs.Tables.{nth_within}
 use Rattle.board.specs.Steps.{is_waiting}
-use Rattle.board.specs.Meaning.{idle, ended_on, step_of, next, met, stepped}
+use Rattle.board.specs.Meaning.{idle, ended_on, step_of, next, met, stepped, eased}
 use Rattle.board.specs.declared.cores.Core.{Core}
 use Rattle.board.specs.declared.cores.Step.TheVariants.{Loose}
 use Rattle.board.specs.Keeping.{waiting_left}
@@ -17,8 +17,8 @@ use Rattle.vectors.proofs.Entries.{unready_same, unready_other, unready_keeps, r
 use Rattle.table.proofs.Ordered.{Ordered, nth_some, nth_past}
 use Rattle.vectors.proofs.Passing.{passed, passed_before, passed_after, passed_else, passed_none, passed_all, fewer}
 use Rattle.vectors.proofs.Places.{nth, tasks, nth_one, nth_only, following_is}
-use Rattle.vectors.proofs.Agree.{Shaped, Starts, Pair, Agree, waits, bits, waits_rise, waiting_from, easing_each}
-use Rattle.vectors.proofs.Started.{stepped_here, stepped_there, stepped_ended, stepped_left}
+use Rattle.vectors.proofs.Agree.{Shaped, Starts, Pair, Agree, waits, bits, waits_rise, waiting_from, easing_each, easable_right}
+use Rattle.vectors.proofs.Started.{either_progress, stepped_here, stepped_there, stepped_ended, stepped_left}
 use Rattle.vectors.proofs.Finished.{apart, from_later}
 
 -- task t drops its ready bit j: core c is not told of the end of task x any more, or task y is told
@@ -379,6 +379,10 @@ module _ (p : Plan) (o : Ordered p) (cs : List Core) (v : Vectors) (s : Agree p 
 
       m : Mid p.cores (ease_vectors p.cores p v c (next p cs c))
       m = mid_all p.cores (omega arith)
+
+-- an easing does to the progress what the meaning says
+pub progress_eased : (p : Plan) → Ordered p → (b : Standing) → Agree p b.progress b.vectors → (k : ℕ) → (board_eased p b k).progress ≡ eased p b.progress k
+progress_eased p o b s k = either_progress (vectors_easable p b k) b _ ∙ ap (λ x. cond x (stepped b.progress k Loose) b.progress) (easable_right p o b s k)
 
 -- an easing keeps the agreement
 pub agree_eased : (p : Plan) → Ordered p → (b : Standing) → Agree p b.progress b.vectors → (k : ℕ) → Agree p (board_eased p b k).progress (board_eased p b k).vectors

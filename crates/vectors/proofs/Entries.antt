@@ -20,20 +20,20 @@ keeps {X} {A} g l t x d u same = go (cases_eq u t) (cases_lt t (length l))
 
 -- the part is a set of cores: a core taken from it is not in it, one put into it is, and the others stay as they were
 module _ {X : Type 0} (g : X → CoreSet) (l : List X) (t k : ℕ) (x d : X) where
-  off_same : g x ≡ without (g (get_or l t d)) k → t < length l → k < 8 → has (g (get_or (set l t x) t d)) k ≡ false
+  pub off_same : g x ≡ without (g (get_or l t d)) k → t < length l → k < 8 → has (g (get_or (set l t x) t d)) k ≡ false
   off_same e h m = ap (λ y. has (g y) k) (get_or-set_same l t x d h) ∙ (ap (λ s. has s k) e ∙ without_same (g (get_or l t d)) k m)
 
-  on_same : g x ≡ with (g (get_or l t d)) k → t < length l → k < 8 → has (g (get_or (set l t x) t d)) k ≡ true
+  pub on_same : g x ≡ with (g (get_or l t d)) k → t < length l → k < 8 → has (g (get_or (set l t x) t d)) k ≡ true
   on_same e h m = ap (λ y. has (g y) k) (get_or-set_same l t x d h) ∙ (ap (λ s. has s k) e ∙ with_same (g (get_or l t d)) k m)
 
-  off_other : (u j : ℕ) → g x ≡ without (g (get_or l t d)) k → j < 8 → (u ≡ t → j ≡ k → ⊥) → has (g (get_or (set l t x) u d)) j ≡ has (g (get_or l u d)) j
+  pub off_other : (u j : ℕ) → g x ≡ without (g (get_or l t d)) k → j < 8 → (u ≡ t → j ≡ k → ⊥) → has (g (get_or (set l t x) u d)) j ≡ has (g (get_or l u d)) j
   off_other u j e m n = keeps (λ y. has (g y) j) l t x d u (λ q. ap (λ s. has s j) e ∙ without_other (g (get_or l t d)) k j m (n q))
 
-  on_other : (u j : ℕ) → g x ≡ with (g (get_or l t d)) k → j < 8 → (u ≡ t → j ≡ k → ⊥) → has (g (get_or (set l t x) u d)) j ≡ has (g (get_or l u d)) j
+  pub on_other : (u j : ℕ) → g x ≡ with (g (get_or l t d)) k → j < 8 → (u ≡ t → j ≡ k → ⊥) → has (g (get_or (set l t x) u d)) j ≡ has (g (get_or l u d)) j
   on_other u j e m n = keeps (λ y. has (g y) j) l t x d u (λ q. ap (λ s. has s j) e ∙ with_other (g (get_or l t d)) k j m (n q))
 
   -- a core that is not in it does not come in when one is taken out
-  off_keeps : (u j : ℕ) → g x ≡ without (g (get_or l t d)) k → j < 8 → has (g (get_or l u d)) j ≡ false → has (g (get_or (set l t x) u d)) j ≡ false
+  pub off_keeps : (u j : ℕ) → g x ≡ without (g (get_or l t d)) k → j < 8 → has (g (get_or l u d)) j ≡ false → has (g (get_or (set l t x) u d)) j ≡ false
   off_keeps u j e m h = go (cases_eq u t) (cases_eq j k)
     where
       go : ((u ≡ t) ⊎ (u ≡ t → ⊥)) → ((j ≡ k) ⊎ (j ≡ k → ⊥)) → has (g (get_or (set l t x) u d)) j ≡ false

@@ -1,11 +1,21 @@
--- A set of cores that a loop fills by a test.
-use Rattle.std.proofs.Common.{◌≡◌, ℕ, ◌+◌, ◌<◌, ◌≤◌, Bool, true, false, ◌&&◌, ◌||◌, eqb, ltb, sym, ap, ◌∙◌, ⊎_elim, arith}
+-- An array that is filled by a function of the place, and a set of cores that a loop fills by a test.
+use Rattle.std.proofs.Common.{◌≡◌, ℕ, ◌+◌, ◌<◌, ◌≤◌, Bool, true, false, ◌&&◌, ◌||◌, eqb, ltb, [], map, get_or, sym, ap, ◌∙◌, ⊎_elim, arith}
 use Rattle.std.proofs.lemmas.Bool.Decides.{nat_tests}
+use Rattle.std.specs.List.{range_with_len}
+use Rattle.std.proofs.lemmas.List.FromFn.{length-map-range_with_len, get_or-map-range_with_len, fill_by_all}
 use Rattle.std.proofs.lemmas.Bool.{cases_eq, le-ltb}
 use Rattle.table.specs.Sets.{has, set_of, none, with}
 use Rattle.table.specs.declared.rows.CoreSet.{CoreSet}
 use Rattle.table.proofs.Sets.{bits_below, has_none, set_at}
 use Rattle.table.proofs.Masks.{set_is}
+
+-- what stands in a filled array of arrays
+pub read_both : {X : Type 0} (f : ℕ → ℕ → X) (n m i j : ℕ) (d : X) → i < n → j < m → get_or (get_or (map (λ x. map (f x) (range_with_len 0 m)) (range_with_len 0 n)) i []) j d ≡ f i j
+read_both f n m i j d l h = ap (λ xs. get_or xs j d) (get_or-map-range_with_len (λ x. map (f x) (range_with_len 0 m)) 0 n i i [] l (omega arith)) ∙ get_or-map-range_with_len (f i) 0 m j j d h (omega arith)
+
+-- arrays filled by functions that agree
+pub fill_same : {X : Type 0} (f g : ℕ → X) (n : ℕ) → ((k : ℕ) → k < n → f k ≡ g k) → map f (range_with_len 0 n) ≡ map g (range_with_len 0 n)
+fill_same f g n h = fill_by_all g (map f (range_with_len 0 n)) n (f 0) (length-map-range_with_len f 0 n) (λ k l. get_or-map-range_with_len f 0 n k k (f 0) l (omega arith) ∙ h k l)
 
 -- sets by tests that agree
 pub set_same : (f g : ℕ → Bool) → ((j : ℕ) → j < 8 → f j ≡ g j) → set_of f ≡ set_of g

@@ -273,6 +273,11 @@ module _ (p : Plan) (o : Ordered p) (cs : List Core) (v : Vectors) (s : Agree p 
 running_core : (cs : List Core) (k : ℕ) → is_running (step_of cs k) ≡ true → k < length cs
 running_core cs k t = ⊎_elim (λ h. h) (λ h. absurd (true≢false (sym t ∙ ap (λ (r : Core). is_running r.step) (get_or_past cs k idle h)))) (cases_lt k (length cs))
 
+-- an end does to the progress what the meaning says
+pub progress_finished : (p : Plan) (b : Standing) (k : ℕ) → (board_finished p b k).progress ≡ finished p b.progress k
+progress_finished p b k = cond_both (is_running (step_of b.progress k)) _ b (λ (z : Standing). z.progress ≡ finished p b.progress k)
+    (λ e. refl) (λ e. sym (cond-false (is_running (step_of b.progress k)) (ended_one p b.progress k) b.progress e))
+
 -- an end keeps the agreement
 pub agree_finished : (p : Plan) → Ordered p → (b : Standing) → Agree p b.progress b.vectors → (k : ℕ) → Agree p (board_finished p b k).progress (board_finished p b k).vectors
 agree_finished p o b s k = cond_both (is_running (step_of b.progress k)) _ b (λ (z : Standing). Agree p z.progress z.vectors) run (λ e. s)

@@ -7,13 +7,13 @@ use Rattle.table.specs.declared.rows.CoreSet.{CoreSet}
 use Rattle.table.proofs.Tables.{few_rows, nth_within}
 use Rattle.board.specs.Steps.{is_waiting, is_pending, is_running, is_over}
 use Rattle.board.specs.Standing.{plan_at, progress_at, loosened, launched}
-use Rattle.board.specs.Meaning.{clear, easable, finished, step_of, next, opened, stepped}
+use Rattle.board.specs.Meaning.{clear, easable, eased, started, finished, step_of, next, opened, stepped}
 use Rattle.board.specs.declared.cores.Core.{Core}
 use Rattle.board.specs.declared.cores.Step.TheVariants.{Loose, Running}
 use Rattle.board.specs.declared.progress.Progress.{Progress}
 use Rattle.board.specs.Keeping.{left_at, waiting_left}
 use Rattle.vectors.specs.Links.{links_of}
-use Rattle.vectors.specs.Phases.{Standing, first_vectors, start_vectors, end_vectors, ease_vectors, vectors_clear, vectors_easable, board_finished}
+use Rattle.vectors.specs.Phases.{Standing, first_vectors, start_vectors, end_vectors, ease_vectors, vectors_clear, vectors_easable, board_eased, board_started, board_finished}
 use Rattle.vectors.specs.Linked.{dropped, ease_linked}
 use Rattle.vectors.specs.Reached.{Reached, at_opening, standing, first_standing}
 use Rattle.vectors.specs.View.{plan_on, standing_of, task_if}
@@ -21,6 +21,8 @@ use Rattle.vectors.specs.declared.vector_board.VectorBoard.{VectorBoard}
 use Rattle.vectors.specs.declared.state.Links.{Links}
 use Rattle.vectors.specs.declared.state.Vectors.{Vectors}
 use Rattle.vectors.proofs.Stands.{clear_means, easable_means, ease_is}
+use Rattle.vectors.proofs.Started.{either_progress}
+use Rattle.vectors.proofs.Finished.{progress_finished}
 
 -- a task was named: the answer was yes, and it is the next one; none was named: the answer was no
 pub some_task : (y : Bool) (p : Plan) (s : Standing) (k t : ℕ) → Some t ≡ task_if y p s k → (y ≡ true) × (t ≡ next p s.progress k)
@@ -34,6 +36,17 @@ none_task false p s k h = refl
 -- the next task of a core that is not over is one of the table
 next_small : (b : VectorBoard) (k : ℕ) → is_over (step_of (progress_at b.progress) k) ≡ false → next (plan_on b) (progress_at b.progress) k < 384
 next_small b k h = omega (arith, nth_within k _ (plan_on b).rows (left_at b.progress k h).left, few_rows b.progress.table)
+
+module _ (b : VectorBoard) (k : ℕ) where
+  -- what the orders leave of the progress is what they mean
+  pub started_means : (board_started (plan_on b) (standing_of b) k).progress ≡ started (plan_on b) (standing_of b).progress k
+  started_means = either_progress (vectors_clear (plan_on b) (standing_of b) k) (standing_of b) _ ∙ ap (λ y. cond y (stepped (standing_of b).progress k Running) (standing_of b).progress) (clear_means b k)
+
+  pub eased_means : (board_eased (plan_on b) (standing_of b) k).progress ≡ eased (plan_on b) (standing_of b).progress k
+  eased_means = either_progress (vectors_easable (plan_on b) (standing_of b) k) (standing_of b) _ ∙ ap (λ y. cond y (stepped (standing_of b).progress k Loose) (standing_of b).progress) (easable_means b k)
+
+  pub finished_means : (board_finished (plan_on b) (standing_of b) k).progress ≡ finished (plan_on b) (standing_of b).progress k
+  finished_means = progress_finished (plan_on b) (standing_of b) k
 
 -- an order that moves the cores to cs and the vectors to w: the vectors answer it with y, the board means m
 module _ (b : VectorBoard) (k : ℕ) (y m : Bool) (cs : List Core) (w : Vectors) where

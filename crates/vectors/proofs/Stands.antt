@@ -11,15 +11,15 @@ use Rattle.table.specs.Rows.{Plan, row}
 use Rattle.table.specs.Below.{any_below}
 use Rattle.table.proofs.Below.{any_same}
 use Rattle.table.proofs.Sets.{less_at}
-use Rattle.table.proofs.Tables.{named_some}
+use Rattle.table.proofs.Tables.{named_some, task_at}
 use Rattle.board.specs.Steps.{is_over, is_running}
 use Rattle.board.specs.Standing.{progress_at}
 use Rattle.board.specs.declared.cores.Step.{Step}
 use Rattle.board.specs.declared.cores.Core.{Core}
 use Rattle.board.proofs.Steps.{over_not}
 use Rattle.board.proofs.Asking.{asked_with, none_over}
-use Rattle.board.specs.Meaning.{clear, easable, idle, next, next_task, step_of}
-use Rattle.board.specs.Keeping.{progress_lawful, running_left}
+use Rattle.board.specs.Meaning.{clear, easable, idle, ended_on, next, next_task, step_of}
+use Rattle.board.specs.Keeping.{progress_lawful, running_left, left_at}
 use Rattle.vectors.specs.Links.{completer, following, task_links, links_of, no_links, links_at, completer_of, following_of}
 use Rattle.vectors.specs.Phases.{Standing, ready_of, status_of, set_ready, hand_on, drops, drop_bit, ease_vectors, vectors_clear, vectors_easable}
 use Rattle.vectors.specs.Linked.{dropped, drop_linked, ease_linked}
@@ -86,6 +86,10 @@ ease_is p v k t (suc j) l m =
 -- some bit is dropped, as the code asks it
 pub some_dropped : (p : Plan) (v : Vectors) (k t : ℕ) → not (not (any_below 8 (has (dropped v k t (row p t).inputs)))) ≡ any_below 8 (drops p v k t)
 some_dropped p v k t = let d = dropped v k t (row p t).inputs in not-not (any_below 8 (has d)) ∙ any_same 8 (has d) (drops p v k t) (dropped_at p v k t)
+
+-- a core that is not over has its next task at hand
+pub going_task : (b : VectorBoard) (k : ℕ) → is_over (step_of (progress_at b.progress) k) ≡ false → next_task (plan_on b) (progress_at b.progress) k ≡ Some (next (plan_on b) (progress_at b.progress) k)
+going_task b k h = task_at b.progress.table k (ended_on (progress_at b.progress) k) (left_at b.progress k h).left
 
 -- the next task if it passes a test is the next task if the answer is yes
 pub tested : (b : VectorBoard) (k : ℕ) (z : Bool) (o r : Option ℕ) → o ≡ next_task (plan_on b) (progress_at b.progress) k → (P : ℕ → Bool → Type 0) →

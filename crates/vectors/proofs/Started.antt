@@ -1,5 +1,5 @@
 -- A start keeps the vectors in agreement with the progress.
-use Rattle.std.proofs.Common.{◌≡◌, ℕ, suc, ◌<◌, Bool, true, false, not, ◌&&◌, ◌||◌, ltb, ◌⊎◌, List, length, get_or, sym, refl, ap, ◌∙◌, subst, inl, inr, arith}
+use Rattle.std.proofs.Common.{◌≡◌, ℕ, suc, ◌<◌, Bool, true, false, cond, not, ◌&&◌, ◌||◌, ltb, ◌⊎◌, List, length, get_or, sym, refl, ap, ◌∙◌, subst, inl, inr, arith}
 use Rattle.std.proofs.Math.Bool.{and-true}
 use Rattle.std.proofs.lemmas.Bool.{ltb-true, cases_eq, and_parts, true≢false, cond_both}
 use Rattle.std.proofs.lemmas.List.{get_or-set_same, get_or-set_other, length-set}
@@ -8,7 +8,7 @@ use Rattle.table.specs.Rows.{Plan, row, wait}
 use Rattle.table.proofs.Below.{all_at}
 use Rattle.table.proofs.Sets.{less_at}
 use Rattle.board.specs.Steps.{is_pending, is_over}
-use Rattle.board.specs.Meaning.{idle, ended_on, step_of, next, stepped}
+use Rattle.board.specs.Meaning.{idle, ended_on, step_of, next, stepped, started}
 use Rattle.board.specs.declared.cores.Core.{Core}
 use Rattle.board.specs.declared.cores.Step.{Step}
 use Rattle.board.specs.declared.cores.Step.TheVariants.{Waiting, Loose, Running, Over}
@@ -18,7 +18,7 @@ use Rattle.vectors.specs.declared.state.Vectors.{Vectors}
 use Rattle.vectors.proofs.Pair.{Kept, alike, start_kept}
 use Rattle.table.proofs.Ordered.{Ordered}
 use Rattle.vectors.proofs.Places.{tasks}
-use Rattle.vectors.proofs.Agree.{From, Pair, Agree, waits, bits, waits_rise}
+use Rattle.vectors.proofs.Agree.{From, Pair, Agree, waits, bits, waits_rise, clear_right}
 
 -- a step leaves each core's ended tasks, and the other cores, as they were
 module _ (cs : List Core) (c : ℕ) (st : Step) (h : c < length cs) where
@@ -140,6 +140,15 @@ module _ (p : Plan) (o : Ordered p) (cs : List Core) (v : Vectors) (s : Agree p 
       go : (d k : ℕ) → d < p.cores → k < p.cores → (d ≡ k → ⊥) → ((d ≡ c) ⊎ (d ≡ c → ⊥)) → Pair p v' d k (get_or (stepped cs c Running) d idle) (ended_on (stepped cs c Running) k)
       go d k hd hk n (inl e) = rw (e, stepped_here cs c Running hl, stepped_ended cs c Running hl k) (pair_here k hk (λ q. n (e ∙ q)))
       go d k hd hk n (inr dc) = rw (stepped_there cs c Running hl d dc, stepped_ended cs c Running hl k) (pair_there d k dc hd hk n)
+
+-- the progress of a board that is one of two
+pub either_progress : (x : Bool) (b b' : Standing) → (cond x b' b).progress ≡ cond x b'.progress b.progress
+either_progress true b b' = refl
+either_progress false b b' = refl
+
+-- a start does to the progress what the meaning says
+pub progress_started : (p : Plan) → Ordered p → (b : Standing) → Agree p b.progress b.vectors → (k : ℕ) → (board_started p b k).progress ≡ started p b.progress k
+progress_started p o b s k = either_progress (vectors_clear p b k) b _ ∙ ap (λ x. cond x (stepped b.progress k Running) b.progress) (clear_right p o b s k)
 
 -- a start keeps the agreement
 pub agree_started : (p : Plan) → Ordered p → (b : Standing) → Agree p b.progress b.vectors → (k : ℕ) → Agree p (board_started p b k).progress (board_started p b k).vectors

@@ -11,6 +11,10 @@ use Rattle.vectors.specs.declared.state.TaskLinks.{TaskLinks}
 abbrev pub place : Plan → ℕ → ℕ
 place p t = tasks_on (take t p.rows) (row p t).core
 
+-- the task before task t on its core, if there is one
+abbrev pub preceding : Plan → ℕ → Option ℕ
+preceding p t = cond (place p t == 0) None (named (nth_on (row p t).core (place p t - 1) 0 p.rows))
+
 -- the task after task t on its core, if there is one
 abbrev pub following : Plan → ℕ → Option ℕ
 following p t = named (nth_on (row p t).core (place p t + 1) 0 p.rows)

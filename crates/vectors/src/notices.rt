@@ -93,9 +93,8 @@ impl VectorBoard {
     fn running_task(&self, core: u32) -> Option<u16>
         ensures { result ≡ task_if (is_running (step_of (progress_at self.now.progress) core)) (plan_on self.now) (standing_of self.now) core }
     {
-        let step = self.progress.core(core).step;
         let next = self.progress.next(core);
-        next.filter(|_| step.is_running())
+        next.filter(|_| self.progress.core(core).step.is_running())
     }
 
     // The waits of the core's task that easing drops.

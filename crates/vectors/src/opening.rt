@@ -1,9 +1,9 @@
-ghost use Rattle.std.specs.Prelude.{◌≡◌, ◌-◌, ◌<◌, ℕ, Bool, map, is_some, if◌then◌else◌, None, nat_eq, slice_index_or};
+ghost use Rattle.std.specs.Prelude.{◌≡◌, ◌<◌, ℕ, Bool, map, is_some, None, slice_index_or};
 ghost use Rattle.std.specs.List.{range_with_len};
-ghost use Rattle.table.specs.Rows.{named, nth_on, row, wait};
+ghost use Rattle.table.specs.Rows.{row, wait};
 ghost use Rattle.table.specs.Sets.{set_of};
 ghost use Rattle.table.specs.View.{plan_of};
-ghost use Rattle.vectors.specs.Links.{aims, begins, completer, first_target, following, links_of, place, task_links, wait_before};
+ghost use Rattle.vectors.specs.Links.{aims, begins, completer, first_target, following, links_of, preceding, task_links, wait_before};
 ghost use Rattle.vectors.specs.Phases.{first_vectors, task_vectors};
 
 use crate::state::{Links, TaskLinks, TaskVectors, Vectors};
@@ -49,7 +49,7 @@ impl TaskOf<'_> {
 
     // The task before this one on its core, if there is one.
     fn preceding(&self) -> Option<u16>
-        ensures { result ≡ (if nat_eq (place (plan_of self.now.table.now) self.now.task) 0 then None else named (nth_on (row (plan_of self.now.table.now) self.now.task).core (place (plan_of self.now.table.now) self.now.task - 1) 0 (plan_of self.now.table.now).rows)) }
+        ensures { result ≡ preceding (plan_of self.now.table.now) self.now.task }
     {
         let place = self.table.place(self.task).checked_sub(1)?;
         self.table.nth_on(self.core(), place)
@@ -64,18 +64,19 @@ impl TaskOf<'_> {
     }
 
     // The wait on the core of the task before this one, 0 if there is none.
-    fn wait_before(&self, core: u32) -> u16
+    fn wait_before(&self, before: Option<u16>, core: u32) -> u16
+        requires { before ≡ preceding (plan_of self.now.table.now) self.now.task }
         ensures { result ≡ wait_before (plan_of self.now.table.now) self.now.task core }
     {
-        self.preceding()
-            .map_or(0, |before| self.table.wait(before, core))
+        before.map_or(0, |before| self.table.wait(before, core))
     }
 
     // Does the task begin to wait on the core: does its wait there exceed that of the task before it?
-    fn begins(&self, core: u32) -> bool
+    fn begins(&self, before: Option<u16>, core: u32) -> bool
+        requires { before ≡ preceding (plan_of self.now.table.now) self.now.task }
         ensures { result ≡ begins (plan_of self.now.table.now) self.now.task core }
     {
-        self.core() != core && self.wait_before(core) < self.wait(core)
+        self.core() != core && self.wait_before(before, core) < self.wait(core)
     }
 
     // The task of the core that completes the wait of this task there, if there is one.
@@ -89,7 +90,8 @@ impl TaskOf<'_> {
     fn ready_vector(&self) -> CoreSet
         ensures { result ≡ set_of (begins (plan_of self.now.table.now) self.now.task) }
     {
-        cores_where(|k| self.begins(k))
+        let before = self.preceding();
+        cores_where(|k| self.begins(before, k))
     }
 
     // What a board looks up of its table for the task.
@@ -155,10 +157,11 @@ impl<'a> Opening<'a> {
         requires { i < 384 }
         ensures { result ≡ aims (plan_of self.now.table.now) task core i }
     {
+        if !self.table.row(i).lies_on(core) {
+            return false;
+        }
         let own = u32::from(self.table.row(task).core);
-        self.table.row(i).lies_on(core)
-            && self.ready[usize::from(i)].contains(own)
-            && self.links.completer(i, own) == Some(task)
+        self.ready[usize::from(i)].contains(own) && self.links.completer(i, own) == Some(task)
     }
 
     // The first task of the core that waits for the end of this task, if one does.

@@ -1,77 +1,54 @@
 ghost use Rattle.std.specs.Prelude.{◌≡◌, slice_set};
 ghost use Rattle.std.specs.Fn.{FnOnceReturnsAtMut};
-ghost use Rattle.vectors.specs.Links.{completer_of, following_of, links_at};
+ghost use Rattle.vectors.specs.Links.{completer_of, following_of};
 ghost use Rattle.vectors.specs.Linked.{drop_linked, dropped, ease_linked};
 ghost use Rattle.vectors.specs.Phases.{end_vectors, hand_on, notice, noticed, notify_of, ready_of, retarget, set_notify, set_ready, set_status, set_target, start_vectors, status_of, target_of, unready, vectors_at, withdraw};
 
 use crate::slots::{entry, put};
-use crate::state::{Links, TaskLinks, TaskVectors, Vectors};
+use crate::state::{Links, TaskVectors, Vectors};
 use table::rows::CoreSet;
 
-impl TaskLinks {
-    const NONE: TaskLinks = TaskLinks {
-        completers: [None; 8],
-        following: None,
-    };
-}
-
 impl Links {
-    // What is known of the task, nothing if there can be no such task.
-    fn at(&self, task: u16) -> TaskLinks
-        ensures { result ≡ links_at self.now task }
-    {
-        entry(&self.tasks, usize::from(task), TaskLinks::NONE)
-    }
-
     // The task of the core that completes the task's wait there.
     pub(crate) fn completer(&self, task: u16, core: u32) -> Option<u16>
         ensures { result ≡ completer_of self.now task core }
     {
-        entry(&self.at(task).completers, core as usize, None)
+        let links = self.tasks.get(usize::from(task))?;
+        entry(&links.completers, core as usize, None)
     }
 
     // The task after the task on its core.
     pub(crate) fn following(&self, task: u16) -> Option<u16>
         ensures { result ≡ following_of self.now task }
     {
-        self.at(task).following
+        self.tasks.get(usize::from(task))?.following
     }
-}
-
-impl TaskVectors {
-    const NONE: TaskVectors = TaskVectors {
-        ready: CoreSet::NONE,
-        notify: CoreSet::NONE,
-        target: [None; 8],
-    };
 }
 
 // A core and a task stay two arguments: often the task lies on another core, so a pair of them would mean two things.
 impl Vectors {
-    // The vectors of the task, empty ones if there can be no such task.
-    fn at(&self, task: u16) -> TaskVectors
-        ensures { result ≡ vectors_at self.now task }
-    {
-        entry(&self.tasks, usize::from(task), TaskVectors::NONE)
-    }
-
     // The ready vector of a task, its notification vector, its target on a core; the status vector of a core.
     pub(crate) fn ready_of(&self, task: u16) -> CoreSet
         ensures { result ≡ ready_of self.now task }
     {
-        self.at(task).ready
+        self.tasks
+            .get(usize::from(task))
+            .map_or(CoreSet::NONE, |vectors| vectors.ready)
     }
 
     pub(crate) fn notify_of(&self, task: u16) -> CoreSet
         ensures { result ≡ notify_of self.now task }
     {
-        self.at(task).notify
+        self.tasks
+            .get(usize::from(task))
+            .map_or(CoreSet::NONE, |vectors| vectors.notify)
     }
 
     pub(crate) fn target_of(&self, task: u16, core: u32) -> Option<u16>
         ensures { result ≡ target_of self.now task core }
     {
-        entry(&self.at(task).target, core as usize, None)
+        let vectors = self.tasks.get(usize::from(task))?;
+        entry(&vectors.target, core as usize, None)
     }
 
     pub(crate) fn status_of(&self, core: u32) -> CoreSet
@@ -85,9 +62,10 @@ impl Vectors {
         requires { F.IsAlwaysCallable by }
         ensures { (to : TaskVectors) → ((is : TaskVectors) → FnOnceReturnsAtMut F.FnOnce by (vectors_at self.old task) tt is → is ≡ to) → self.new ≡ record self.old { tasks = slice_set self.old.tasks task to } }
     {
-        let mut vectors = self.at(task);
-        by(&mut vectors);
-        put(&mut self.tasks, usize::from(task), vectors);
+        let at = usize::from(task);
+        if at < self.tasks.len() {
+            by(&mut self.tasks[at]);
+        }
     }
 
     fn set_ready(&mut self, task: u16, to: CoreSet)

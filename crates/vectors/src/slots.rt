@@ -1,7 +1,7 @@
 // Reading and writing an entry of a list, where an index past the end reads a default and writes nothing.
 ghost use Rattle.std.specs.Prelude.{◌≡◌, slice_index_or, slice_set};
 
-// The library's way to read an entry is three calls: here they are many, so they have a name.
+// The library's way to read an entry is three calls: three places read so, so they have a name.
 pub(crate) fn entry<T: Copy>(items: &[T], at: usize, default: T) -> T
     ensures { result ≡ slice_index_or items.now at default }
 {

@@ -1,5 +1,6 @@
 use Rattle.std.proofs.Common.{ℕ, Bool, rules, length, drop, sym, ap, ◌∙◌, arith, length-drop}
 use borrow.Author.Tests.{tests}
+use Rattle.std.proofs.iter.Serving.{serving}
 use Rattle.std.proofs.lemmas.Iterator.{YieldsList-from_range}
 use Rattle.std.proofs.lemmas.Iterator.Adapters.{option_map_id}
 use Rattle.std.proofs.lemmas.Iterator.Consumers.{nth_from_yields_List, YieldsList-from_filter}
@@ -9,6 +10,11 @@ use Rattle.table.specs.View.{plan_of}
 use Rattle.table.proofs.Tables.{few_rows, count_rows, nth_named}
 use Rattle.std.proofs.lemmas.List.{get_or-drop}
 use Rattle.table.proofs.lawful.Table.nth_from.Goals as goal
+
+pub nth-requires : goal.nth-requires
+nth-requires c =
+    let count = count_rows c.args.self.now in
+    grind (serving, count, c.rows-rows.ensures.is, c.rows-rows.ensures.few)
 
 pub returns : goal.returns
 returns c =

@@ -1,5 +1,5 @@
 use Rattle.std.proofs.Common.{◌≡◌, ℕ, Bool, ◌<◌, true, false, ◌&&◌, get_or, sym, ap, ◌∙◌, arith}
-use Rattle.std.proofs.lemmas.Bool.{both_ways, and_left, and_right}
+use Rattle.std.proofs.lemmas.Bool.{and_left, and_right}
 use Rattle.std.proofs.lemmas.List.FromFn.{get_or-map-range_with_len}
 use Rattle.table.specs.Rows.{Plan, on, row}
 use Rattle.table.specs.Sets.{has, none, set_of}
@@ -13,7 +13,6 @@ use Rattle.vectors.specs.declared.opening.Opening.{Opening}
 use Rattle.vectors.specs.declared.state.Links.{Links}
 use Rattle.vectors.proofs.Stands.{completer_at}
 use Rattle.vectors.proofs.opening.Opening.aims.Goals as goal
-use Rattle.vectors.proofs.opening.Opening.aims.Goals.{then-lies_on, else-lies_on}
 
 -- what the opening holds of task i and core k of task x
 module _ (o : Opening) (x i k : ℕ) (l : i < 384) (own : k ≡ (row (plan_of o.table.now) x).core) where
@@ -34,31 +33,23 @@ lies : (p : Plan) (i k : ℕ) (b : Bool) (r : Row) → r ≡ row p i → b ≡ o
 lies p i k b r is asked = ap (on k) (sym is) ∙ sym asked
 
 pub returns-then-contains : goal.returns-then-contains
-returns-then-contains c = elim c.if-lies_on.branch [
-  | then-lies_on w ↦
-      let o = c.args.self.now in
-      let p = plan_of o.table.now in
-      let x = c.args.task in
-      let i = c.args.i in
-      let own : c.from-own.result ≡ (row p x).core = c.from-own.ensures ∙ ap (λ (r : Row). r.core) c.row.ensures.is in
-      let a : on c.args.core (row p i) ≡ true = lies p i c.args.core c.lies_on.result c.row-2.result c.row-2.ensures.is c.lies_on.ensures ∙ w.if-lies_on.true in
-      let b : begins p i (row p x).core ≡ true = sym (ready_is o x i c.from-own.result c.requires own) ∙ (ap (λ n. has (get_or o.ready n none) c.from-own.result) (sym w.from.ensures) ∙ (sym w.contains.ensures ∙ (sym w.value-is ∙ c.if-contains.true))) in
-      let d = c.eq.ensures ∙ ap (is_task x) (c.completer.ensures ∙ completer_is o x i c.from-own.result c.requires own) in
-      d ∙ sym (ap (λ y. y && (begins p i (row p x).core && is_task x (completer p i (row p x).core))) a ∙ ap (λ y. y && is_task x (completer p i (row p x).core)) b)
-  | else-lies_on w ↦ absurd (both_ways c.lies_on.result w.if-lies_on.false (sym w.value-is ∙ c.if-contains.true))
-]
+returns-then-contains c =
+    let o = c.args.self.now in
+    let p = plan_of o.table.now in
+    let x = c.args.task in
+    let i = c.args.i in
+    let own : c.from-own.result ≡ (row p x).core = c.from-own.ensures ∙ ap (λ (r : Row). r.core) c.row-2.ensures.is in
+    let a : on c.args.core (row p i) ≡ true = lies p i c.args.core c.lies_on.result c.row.result c.row.ensures.is c.lies_on.ensures ∙ c.if-not-lies_on.false in
+    let b : begins p i (row p x).core ≡ true = sym (ready_is o x i c.from-own.result c.requires own) ∙ (ap (λ n. has (get_or o.ready n none) c.from-own.result) (sym c.from.ensures) ∙ (sym c.contains.ensures ∙ c.if-contains.true)) in
+    let d = c.eq.ensures ∙ ap (is_task x) (c.completer.ensures ∙ completer_is o x i c.from-own.result c.requires own) in
+    d ∙ sym (ap (λ y. y && (begins p i (row p x).core && is_task x (completer p i (row p x).core))) a ∙ ap (λ y. y && is_task x (completer p i (row p x).core)) b)
 
 pub returns-else-contains : goal.returns-else-contains
-returns-else-contains c = elim c.if-lies_on.branch [
-  | then-lies_on w ↦
-      let o = c.args.self.now in
-      let p = plan_of o.table.now in
-      let x = c.args.task in
-      let i = c.args.i in
-      let own : c.from-own.result ≡ (row p x).core = c.from-own.ensures ∙ ap (λ (r : Row). r.core) c.row.ensures.is in
-      let b : begins p i (row p x).core ≡ false = sym (ready_is o x i c.from-own.result c.requires own) ∙ (ap (λ n. has (get_or o.ready n none) c.from-own.result) (sym w.from.ensures) ∙ (sym w.contains.ensures ∙ (sym w.value-is ∙ c.if-contains.false))) in
-      c.if-contains.false ∙ sym (and_right (on c.args.core (row p i)) _ (and_left _ _ b))
-  | else-lies_on w ↦
-      let p = plan_of c.args.self.now.table.now in
-      c.if-contains.false ∙ sym (and_left _ _ (lies p c.args.i c.args.core c.lies_on.result c.row-2.result c.row-2.ensures.is c.lies_on.ensures ∙ w.if-lies_on.false))
-]
+returns-else-contains c =
+    let o = c.args.self.now in
+    let p = plan_of o.table.now in
+    let x = c.args.task in
+    let i = c.args.i in
+    let own : c.from-own.result ≡ (row p x).core = c.from-own.ensures ∙ ap (λ (r : Row). r.core) c.row-2.ensures.is in
+    let b : begins p i (row p x).core ≡ false = sym (ready_is o x i c.from-own.result c.requires own) ∙ (ap (λ n. has (get_or o.ready n none) c.from-own.result) (sym c.from.ensures) ∙ (sym c.contains.ensures ∙ c.if-contains.false)) in
+    c.if-contains.false ∙ sym (and_right (on c.args.core (row p i)) _ (and_left _ _ b))

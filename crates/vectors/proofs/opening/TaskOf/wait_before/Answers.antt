@@ -26,5 +26,5 @@ waits t x k o h =
 pub returns : goal.returns
 returns c =
     let p = plan_of c.args.self.now.table.now in
-    let e : c.map_or.result ≡ option_map_or (λ b. wait p.rows (row p b) c.args.core) c.preceding.result 0 = search rules in
-    e ∙ waits c.args.self.now.table.now c.args.self.now.task c.args.core c.preceding.result c.preceding.ensures
+    let e : c.map_or.result ≡ option_map_or (λ b. wait p.rows (row p b) c.args.core) c.args.before 0 = search rules in
+    e ∙ waits c.args.self.now.table.now c.args.self.now.task c.args.core c.args.before c.requires
